@@ -1,0 +1,9 @@
+pub mod Keys
+pub mod Settled
+pub mod Simulate
+pub mod Runs
+pub mod FiringLaw
+pub mod Matches
+pub mod Bounded
+pub mod LeftLaw
+mod Rows
