@@ -1,0 +1,3 @@
+pub mod DecimalText
+pub mod LineSteps
+pub mod WordSteps

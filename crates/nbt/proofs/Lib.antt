@@ -1,0 +1,4 @@
+pub mod Unique
+pub mod Numbers
+pub mod Forms
+pub mod Steps

@@ -1,0 +1,24 @@
+use Rattle.std.proofs.Common.{◌≡◌, ◌≤◌, List, map, sym, ap, ◌∙◌}
+use Rattle.circuit.specs.declared.Cell.{Cell}
+use Rattle.circuit.specs.Circuit.{view}
+use Rattle.redpile_top.specs.declared.build.OutPlace.{OutPlace}
+use Rattle.redpile_top.specs.World.{Running, world_circuit, state_in, shown_of}
+use Rattle.std.proofs.lemmas.List.Elements.{All-same}
+use Rattle.redpile_top.proofs.Shown.{view-shown}
+use Rattle.redpile_top.proofs.Within.{shown-le}
+use Rattle.redpile_top.proofs.world_engine.World.view.Goals as goal
+
+pub returns-clause-values : goal.returns-clause-values
+returns-clause-values c =
+    let w = c.self.inside in
+    c.view_into.ensures
+    ∙ ap (λ (ps : List Cell). map (shown_of w.build ps) c.deref-2.result.now) c.deref.ensures.value
+    ∙ ap (λ (os : List OutPlace). map (shown_of w.build w.cells.items) os) (c.deref-2.ensures.value ∙ c.self.invariant.shown)
+    ∙ view-shown w.build w.time w.cells.items
+    ∙ ap (λ (r : Running). view (world_circuit r.plan) (state_in r)) c.self.view_is
+
+pub returns-clause-small : goal.returns-clause-small
+returns-clause-small c =
+    let w = c.self.inside in
+    let is = c.view_into.ensures ∙ ap (λ (ps : List Cell). map (shown_of w.build ps) c.deref-2.result.now) c.deref.ensures.value in
+    All-same (λ n. n ≤ 15) c.view_into.new.into (map (shown_of w.build w.cells.items) c.deref-2.result.now) is (shown-le w.build w.cells.items c.self.invariant.within c.deref-2.result.now)

@@ -1,0 +1,183 @@
+-- The clauses of the top call: what each answer says of the words, the files and the sinks.
+use Rattle.std.specs.Prelude.{◌≡◌, ◌⊎◌, ℕ, ◌<◌, ◌≤◌, List, [], ◌∷◌, length, get_or, Option, Some, None, Result, Ok, Err, OnOk, IfErr, codes, if◌then◌else◌}
+use Rattle.std.specs.Str.{bytes_eq}
+use Rattle.circuit.specs.declared.Act.{Act}
+use Rattle.rp_io.specs.Causes.{Wrote, WrotePrefix}
+use Rattle.redpile_top.specs.declared.form.Form.{Form}
+use Rattle.redpile_top.specs.declared.form.Form.TheVariants.{World}
+use Rattle.redpile_top.specs.declared.report.Fault.{Fault}
+use Rattle.redpile_top.specs.declared.report.Fault.TheVariants.{Usage as UsageFault, Read, Write, Build as BuildFault, Script as ScriptFault, Memory}
+use Rattle.redpile_top.specs.declared.status.Status.{Status}
+use Rattle.redpile_top.specs.declared.status.Status.TheVariants.{Done, Usage, ReadFault, WriteFault, BadBuild, BadScript, NoMemory}
+use Rattle.redpile_top.specs.File.{file}
+use Rattle.redpile_top.specs.Plan.{Plan}
+use Rattle.redpile_top.specs.Played.{WroteRun, WroteRunPrefix}
+use Rattle.redpile_top.specs.Scripts.{script_of}
+use Rattle.redpile_top.specs.Texts.{fault_line}
+
+-- ---- words
+
+-- the form that the words have, if they have one
+abbrev pub form_of : List (List ℕ) → Option Form
+form_of (command ∷ build ∷ script ∷ []) = if bytes_eq command (codes "world") then Some World else None
+form_of words = None
+
+-- the word in a place, counted from 0
+abbrev pub word : List (List ℕ) → ℕ → List ℕ
+word words i = get_or words i []
+
+-- The words of this form name this file.
+abbrev pub IsFileWord : Option Form → List (List ℕ) → List ℕ → Type 0
+IsFileWord None words name = ⊥
+IsFileWord (Some World) words name = (name ≡ word words 1) ⊎ (name ≡ word words 2)
+
+-- ---- files
+
+-- the bytes of files by name, where they are told
+abbrev pub Told : Type 0
+Told = List ℕ → Option (List ℕ)
+
+-- It holds of the bytes, where they are told.
+abbrev pub OnTold : Option (List ℕ) → (List ℕ → Type 0) → Type 0
+OnTold told P = (bytes : List ℕ) → told ≡ Some bytes → P bytes
+
+-- The bytes are an accepted build's.
+pub record IsBuild (build : Plan) (bytes : List ℕ) : Type 0 where
+  pub within : length bytes ≤ 67108864
+  pub is : file bytes build
+
+-- They are no build's, or too many.
+abbrev pub IsBadBuild : List ℕ → Type 0
+IsBadBuild bytes = (67108864 < length bytes) ⊎ ((build : Plan) → file bytes build → ⊥)
+
+-- The bytes are an accepted script's for the build.
+pub record IsScript (build : Plan) (acts : List Act) (bytes : List ℕ) : Type 0 where
+  pub within : length bytes ≤ 1048576
+  pub is : script_of bytes build ≡ Some acts
+
+-- They are no script's for the build, or too many.
+abbrev pub IsBadScript : Plan → List ℕ → Type 0
+IsBadScript build bytes = (1048576 < length bytes) ⊎ (script_of bytes build ≡ None)
+
+-- ---- what a command did, before its status and its line are made of it
+
+abbrev pub Ending : Type 0
+Ending = Result (Unit {0}) Fault
+
+-- the build and the script are those of the two files, where they are told
+pub record Accepted (b s : Option (List ℕ)) (build : Plan) (acts : List Act) : Type 0 where
+  pub build_is : OnTold b (IsBuild build)
+  pub script_is : OnTold s (IsScript build acts)
+
+-- When a fault may come, for the commands over a build and a script.
+abbrev pub Cause : (b s : Option (List ℕ)) (reading writing : Type 0) → Fault → Type 0
+Cause b s reading writing UsageFault = ⊥
+Cause b s reading writing Read = reading
+Cause b s reading writing Write = writing
+Cause b s reading writing BuildFault = OnTold b IsBadBuild
+Cause b s reading writing ScriptFault = (build : Plan) × (OnTold b (IsBuild build) × OnTold s (IsBadScript build))
+Cause b s reading writing Memory = Unit {0}
+
+-- Nothing was written, but where all or a part was.
+abbrev pub ButForWrites : Ending → Type 0 → Type 0
+ButForWrites (Ok done) P = Unit {0}
+ButForWrites (Err Write) P = Unit {0}
+ButForWrites (Err fault) P = P
+
+abbrev pub OnWriteFault : Ending → Type 0 → Type 0
+OnWriteFault (Err Write) P = P
+OnWriteFault ending P = Unit {0}
+
+-- It was done for a build and a script that were accepted.
+pub record Did (b s : Option (List ℕ)) (did : Plan → List Act → Type 0) : Type 0 where
+  pub build : Plan
+  pub acts : List Act
+  pub accepted : Accepted b s build acts
+  pub wrote : did build acts
+
+-- How a command over a build and a script ends. `did` and `began` say that the whole of its text, and a prefix, was written.
+pub record Ends (b s : Option (List ℕ)) (reading writing untouched : Type 0) (did began : Plan → List Act → Type 0) (ending : Ending) : Type 0 where
+  pub done : OnOk ending (Did b s did)
+  pub front : OnWriteFault ending (Did b s began)
+  pub cause : IfErr ending (Cause b s reading writing)
+  pub nothing : ButForWrites ending untouched
+
+-- what a command wrote, by its form: `world` a run of the uncompiled world
+abbrev pub DidForm : Form → (before now : Option (List ℕ)) → Plan → List Act → Type 0
+DidForm World before now build acts = WroteRun build acts before now
+
+abbrev pub BeganForm : Form → (before now : Option (List ℕ)) → Plan → List Act → Type 0
+BeganForm World before now build acts = WroteRunPrefix build acts before now
+
+-- How a call ends, by the form of its words.
+abbrev pub Ran : Option Form → Told → List (List ℕ) → (reading writing : Type 0) (before now : Option (List ℕ)) → Ending → Type 0
+Ran None told words reading writing before now ending = (ending ≡ Err UsageFault) × (now ≡ before)
+Ran (Some form) told words reading writing before now ending =
+    Ends (told (word words 1)) (told (word words 2)) reading writing (now ≡ before) (DidForm form before now) (BeganForm form before now) ending
+
+-- ---- statuses and lines
+
+abbrev pub status_of : Fault → Status
+status_of UsageFault = Usage
+status_of Read = ReadFault
+status_of Write = WriteFault
+status_of BuildFault = BadBuild
+status_of ScriptFault = BadScript
+status_of Memory = NoMemory
+
+-- This answer comes exactly here: a read's fault or want of memory may stand in its place.
+pub record Exactly (P : Type 0) (answer status : Status) : Type 0 where
+  pub only : status ≡ answer → P
+  pub must : P → (status ≡ answer) ⊎ ((status ≡ ReadFault) ⊎ (status ≡ NoMemory))
+
+-- BadBuild comes exactly where the build's file is bad.
+abbrev pub BuildClause : Option Form → Told → List (List ℕ) → Status → Type 0
+BuildClause None told words status = status ≡ BadBuild → ⊥
+BuildClause (Some World) told words status = OnTold (told (word words 1)) (λ bytes. Exactly (IsBadBuild bytes) BadBuild status)
+
+-- the build is accepted, and the script's file is bad for it
+abbrev pub IsBadScriptFor : List ℕ → List ℕ → Type 0
+IsBadScriptFor build_bytes bytes = (build : Plan) × (IsBuild build build_bytes × IsBadScript build bytes)
+
+-- BadScript comes exactly where the script's file is bad for an accepted build.
+abbrev pub ScriptClause : Option Form → Told → List (List ℕ) → Status → Type 0
+ScriptClause None told words status = status ≡ BadScript → ⊥
+ScriptClause (Some World) told words status =
+    OnTold (told (word words 1)) (λ build_bytes. OnTold (told (word words 2)) (λ bytes. Exactly (IsBadScriptFor build_bytes bytes) BadScript status))
+
+-- Done says that the whole text of the form was written.
+abbrev pub DoneClause : Option Form → Told → List (List ℕ) → (before now : Option (List ℕ)) → Status → Type 0
+DoneClause None told words before now status = status ≡ Done → ⊥
+DoneClause (Some form) told words before now status = status ≡ Done → Did (told (word words 1)) (told (word words 2)) (DidForm form before now)
+
+-- WriteFault says that a prefix of such a text was written.
+abbrev pub FrontClause : Option Form → Told → List (List ℕ) → (before now : Option (List ℕ)) → Status → Type 0
+FrontClause None told words before now status = status ≡ WriteFault → ⊥
+FrontClause (Some form) told words before now status = status ≡ WriteFault → Did (told (word words 1)) (told (word words 2)) (BeganForm form before now)
+
+-- An accepted build and script give Done, but for a fault that was counted and for want of memory.
+abbrev pub CompleteClause : Option Form → Told → List (List ℕ) → Status → Type 0
+CompleteClause None told words status = Unit {0}
+CompleteClause (Some World) told words status = (build : Plan) (acts : List Act) (build_bytes bytes : List ℕ) → told (word words 1) ≡ Some build_bytes → told (word words 2) ≡ Some bytes → IsBuild build build_bytes → IsScript build acts bytes
+    → (status ≡ Done) ⊎ ((status ≡ ReadFault) ⊎ ((status ≡ WriteFault) ⊎ (status ≡ NoMemory)))
+
+-- The line of a fault that has its cause was written, or, only where a count rose, a prefix of it.
+pub record LineOf (cause : Fault → Type 0) (rose : Type 0) (before now : Option (List ℕ)) (status : Status) : Type 0 where
+  pub fault : Fault
+  pub stands_for : status ≡ status_of fault
+  pub has_cause : cause fault
+  pub wrote : Wrote before now (fault_line fault) ⊎ (rose × WrotePrefix before now (fault_line fault))
+
+-- When a fault may come, by the form.
+abbrev pub CauseOf : Option Form → Told → List (List ℕ) → (reading writing : Type 0) → Fault → Type 0
+CauseOf None told words reading writing fault = fault ≡ UsageFault
+CauseOf (Some World) told words reading writing fault = Cause (told (word words 1)) (told (word words 2)) reading writing fault
+
+-- Each status but Done writes one line to `err`, and Done writes nothing there.
+pub record LineClause (cause : Fault → Type 0) (rose : Type 0) (before now : Option (List ℕ)) (status : Status) : Type 0 where
+  pub none : status ≡ Done → now ≡ before
+  pub line : (status ≡ Done → ⊥) → LineOf cause rose before now status
+
+-- No name is asked but the words in the places of files.
+abbrev pub AskedClause : Option Form → List (List ℕ) → (before now : List ℕ → Option ℕ) → Type 0
+AskedClause form words before now = (name : List ℕ) → (IsFileWord form words name → ⊥) → now name ≡ before name

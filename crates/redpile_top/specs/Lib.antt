@@ -1,0 +1,12 @@
+pub mod Place
+pub mod Plan
+pub mod Places
+pub mod Power
+pub mod World
+pub mod Scripts
+pub mod Texts
+pub mod Played
+pub mod BlockText
+pub mod File
+pub mod Clauses
+pub mod Statuses

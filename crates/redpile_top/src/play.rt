@@ -1,0 +1,164 @@
+//! Plays the blocks of a build and writes what they show.
+
+ghost use Rattle.std.specs.Prelude.{◌≡◌, ◌≤◌, ◌<◌, ◌+◌, ◌*◌, ◌^◌, ℕ, List, length, IfOk, OnOk, OnErr, IsErrOf};
+ghost use Rattle.rp_io.specs.Causes.{Rose, HasCause, Wrote, WrotePrefix};
+ghost use Rattle.circuit.specs.Circuit.{view, start};
+ghost use Rattle.redpile_top.specs.Texts.{view_line, world_trailer, moment_after};
+ghost use Rattle.redpile_top.specs.World.{world_circuit, state_in};
+ghost use Rattle.redpile_top.specs.Played.{StepTo, TakenStep, IsScriptFor, header_of, WroteRun, WroteRunPrefix};
+
+use crate::build::{Build, outputs};
+use crate::report::{Cause, LineBuf, push_header, push_trailer, push_view};
+use crate::script::Script;
+use crate::world_engine::World;
+use circuit::Step;
+use rp_io::{Sink, WriteFault, put_all};
+use rp_text::NoMemory;
+use std::alloc::Global;
+
+/// Why a run wasn't written whole.
+#[derive(Clone, Copy, PartialEq, Eq, Debug)]
+pub enum PlayRefusal {
+    WriteFault,
+    NoMemory,
+}
+
+/// Room for the trailer, or for a view's line but for its values.
+const LINE_ROOM: usize = 96;
+
+/// Writes the line of a view.
+#[tactic(auto, unfolding(crate::specs::Texts::appended))]
+fn put_view<O: Sink>(
+    out: &mut O,
+    world: &World,
+    cause: Cause,
+    values: &mut [u8],
+    line: &mut LineBuf,
+) -> Result<(), WriteFault>
+    requires values { length values.old ≡ length (world_circuit world.now.plan).shown }
+    requires room { 96 + 3 * length values.old ≤ line.old.room }
+    ensures room { line.new.room ≡ line.old.room }
+    ensures all { OnOk result (Wrote (O.written out.old) (O.written out.new) (view_line world.now.time cause (view (world_circuit world.now.plan) (state_in world.now)))) }
+    ensures front { OnErr result (WrotePrefix (O.written out.old) (O.written out.new) (view_line world.now.time cause (view (world_circuit world.now.plan) (state_in world.now)))) }
+    ensures cause { HasCause (O.faults out.old) (O.faults out.new) result }
+{
+    line.clear();
+    world.view(values);
+    push_view(line, world.time(), cause, values);
+    put_all(out, line.bytes())
+}
+
+/// Writes the trailer.
+#[tactic(auto, unfolding(crate::specs::Texts::appended))]
+fn put_trailer<O: Sink>(out: &mut O, line: &mut LineBuf) -> Result<(), WriteFault>
+    requires { 96 ≤ line.old.room }
+    ensures all { OnOk result (Wrote (O.written out.old) (O.written out.new) world_trailer) }
+    ensures front { OnErr result (WrotePrefix (O.written out.old) (O.written out.new) world_trailer) }
+    ensures cause { HasCause (O.faults out.old) (O.faults out.new) result }
+{
+    line.clear();
+    push_trailer(line, None);
+    put_all(out, line.bytes())
+}
+
+/// Takes a step, and gives the cause of the view after it.
+fn take_step(world: &mut World, step: Step) -> Cause
+    requires early { world.old.time < 2 ^ 62 }
+    requires taken { TakenStep (world_circuit world.old.plan) step }
+    ensures plan { world.new.plan ≡ world.old.plan }
+    ensures moment { moment_after world.old.time step ≡ record { time = world.new.time; cause = result } }
+    ensures step { StepTo (world_circuit world.old.plan) step (state_in world.old) (state_in world.new) }
+{
+    match step {
+        Step::Click { pos, click } => {
+            match world.click(pos, click) {
+                Ok(()) => Cause::of_click(click),
+                Err(_) => unreachable!(),
+            }
+        }
+        Step::Tick => {
+            world.tick();
+            Cause::Tick
+        }
+    }
+}
+
+/// Writes the run of a world that has just started: the header, a line for each view, and the
+/// trailer.
+fn put_run<O: Sink>(
+    header: &[u8],
+    script: &Script,
+    world: &mut World,
+    values: &mut [u8],
+    line: &mut LineBuf,
+    out: &mut O,
+) -> Result<(), WriteFault>
+    requires header { header.now ≡ header_of world.old.plan }
+    requires script { IsScriptFor world.old.plan script.now }
+    requires time { world.old.time ≡ 0 }
+    requires start { state_in world.old ≡ start (world_circuit world.old.plan) }
+    requires values { length values.old ≡ length (world_circuit world.old.plan).shown }
+    requires room { 96 + 3 * length values.old ≤ line.old.room }
+    ensures done { OnOk result (WroteRun world.old.plan script.now (O.written out.old) (O.written out.new)) }
+    ensures front { OnErr result (WroteRunPrefix world.old.plan script.now (O.written out.old) (O.written out.new)) }
+    ensures cause { HasCause (O.faults out.old) (O.faults out.new) result }
+{
+    put_all(out, header)?;
+    put_view(out, world, Cause::Start, values, line)?;
+    for step in script.steps() {
+        let cause = take_step(world, step);
+        put_view(out, world, cause, values, line)?;
+    }
+    put_trailer(out, line)
+}
+
+fn zeros(alloc: Global, count: usize) -> Result<Vec<u8>, NoMemory>
+    ensures { IfOk result (λ values. length values.items ≡ count) }
+{
+    Ok(vec![in alloc; 0u8; count]?)
+}
+
+impl From<NoMemory> for PlayRefusal {
+    ghost use Rattle.std.specs.Prelude.{◌≡◌};
+    ghost use Rattle.redpile_top.specs.declared.play.PlayRefusal.TheVariants.{NoMemory as NoMemoryRefusal};
+
+    ghost from_gives = { λ _ refusal. refusal ≡ NoMemoryRefusal };
+
+    fn from(_: NoMemory) -> Self {
+        PlayRefusal::NoMemory
+    }
+}
+
+/// Plays a script on the blocks of a build: the header, a line for each view, and the trailer.
+/// All memory is taken before the first write.
+pub fn play_world<O: Sink>(
+    alloc: Global,
+    build: &Build,
+    script: &Script,
+    out: &mut O,
+) -> Result<(), PlayRefusal>
+    requires { IsScriptFor build.now script.now }
+    ensures done { OnOk result (WroteRun build.now script.now (O.written out.old) (O.written out.new)) }
+    ensures front { IsErrOf result PlayRefusal.WriteFault → WroteRunPrefix build.now script.now (O.written out.old) (O.written out.new) }
+    ensures fault { IsErrOf result PlayRefusal.WriteFault → Rose (O.faults out.old) (O.faults out.new) }
+    ensures nothing { IsErrOf result PlayRefusal.NoMemory → O.written out.new ≡ O.written out.old }
+    ensures later { O.faults out.old ≤ O.faults out.new }
+{
+    let places = outputs(alloc, build)?;
+    let mut header = Vec::new(alloc);
+    push_header(&mut header, &places)?;
+    let mut line = LineBuf::new(alloc, LINE_ROOM + 3 * places.len())?;
+    let mut values = zeros(alloc, places.len())?;
+    let mut world = World::start(alloc, build)?;
+    match put_run(
+        &header,
+        script,
+        &mut world,
+        values.as_mut_slice(),
+        &mut line,
+        out,
+    ) {
+        Ok(()) => Ok(()),
+        Err(WriteFault) => Err(PlayRefusal::WriteFault),
+    }
+}
