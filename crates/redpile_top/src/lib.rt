@@ -10,6 +10,8 @@ mod report;
 mod schematic;
 mod script;
 mod status;
+#[cfg(test)]
+mod tests;
 mod top;
 mod world_engine;
 
