@@ -1,11 +1,11 @@
 -- What a click means for the lists of cells.
-use Rattle.std.proofs.Common.{◌≡◌, ℕ, Bool, true, List, Option, Some, None, refl, sym, ap, subst, ◌∙◌}
+use Rattle.std.proofs.Common.{◌≡◌, ℕ, true, List, Option, Some, None, refl, sym, ap, ◌∙◌}
 use Rattle.circuit.specs.declared.Pos.{Pos}
 use Rattle.circuit.specs.declared.Click.{Click}
 use Rattle.circuit.specs.declared.Cell.{Cell}
 use Rattle.circuit.specs.declared.Component.{Component}
 use Rattle.circuit.specs.Component.{clicked}
-use Rattle.circuit.specs.Circuit.{State, put, attend, with_value, Clicks}
+use Rattle.circuit.specs.Circuit.{put, attend, with_value, Clicks}
 use Rattle.circuit.specs.Taken.{Takes}
 use Rattle.circuit.proofs.Runs.{clicked_where_taken}
 use Rattle.redpile_top.specs.declared.block_table.Block.{Block}
@@ -13,7 +13,7 @@ use Rattle.redpile_top.specs.Plan.{Plan, block_at, entry, in_box}
 use Rattle.redpile_top.specs.World.{role_of, role_at, world_circuit, state_of, nothing}
 use Rattle.redpile_top.proofs.Held.{role_outside}
 use Rattle.std.proofs.lemmas.Bool.{cases_Bool}
-use Rattle.std.proofs.Common.{inl, inr, ◌⊎◌}
+use Rattle.std.proofs.Common.{inl, inr}
 
 pub role_there : (b : Plan) (p : Pos) (k : Block) (role : Option Component) → k ≡ block_at b p → role ≡ role_of k → role_at b p ≡ role
 unfolding role_at

@@ -1,18 +1,17 @@
 -- Which cell fires next, and what it means for the world.
-use Rattle.std.proofs.Common.{◌≡◌, ◌≢◌, ℕ, zero, suc, ◌+◌, ◌*◌, ◌/◌, ◌<◌, ◌≤◌, Bool, true, false, cond, List, [], ◌∷◌, refl, sym, ap, subst, ◌∙◌, arith, Option, Some, None, below_more, get_or, ◌⊎◌, inl, inr}
+use Rattle.std.proofs.Common.{◌≡◌, ◌≢◌, ℕ, zero, suc, ◌+◌, ◌*◌, ◌/◌, ◌<◌, ◌≤◌, Bool, true, false, cond, List, [], ◌∷◌, refl, sym, ap, subst, ◌∙◌, arith, Option, Some, None, below_more, get_or, inl, inr}
 use Rattle.std.specs.Prelude.{slice_index_or}
 use Rattle.std.proofs.lemmas.Bool.{false≢true, cases_Bool, cases_lt}
 use Rattle.std.proofs.Math.Nat.{mod-add-div}
 use Rattle.circuit.specs.declared.Pos.{Pos}
 use Rattle.circuit.specs.declared.Cell.{Cell}
 use Rattle.circuit.specs.declared.Component.{Component}
-use Rattle.circuit.specs.Circuit.{Circuit, State, IsDue, IsFiringList, fire, fire_all}
-use Rattle.circuit.specs.Firing.{Fires, NoneDue, FiresNext, due_at}
+use Rattle.circuit.specs.Circuit.{Circuit, State, IsDue, fire, fire_all}
+use Rattle.circuit.specs.Firing.{Fires, NoneDue, FiresNext}
 use Rattle.circuit.proofs.FiringLaw.{fire_makes_none_due, fires_is_firing_list}
 use Rattle.circuit.proofs.Runs.{due_at-true, due_at_from}
-use Rattle.redpile_top.specs.declared.block_table.Block.TheVariants.{Air}
-use Rattle.redpile_top.specs.Plan.{Plan, volume, in_box, entry, cell_of, place_of, block_at}
-use Rattle.redpile_top.specs.Places.{IsInside, inside, cell_below, place-cell, place_inside, entry-inside, entry-outside}
+use Rattle.redpile_top.specs.Plan.{Plan, volume, in_box, entry, cell_of, place_of}
+use Rattle.redpile_top.specs.Places.{IsInside, inside, cell_below, place-cell, place_inside, entry-inside}
 use Rattle.redpile_top.specs.World.{nothing, due_in, IsNext, role_at, world_circuit, state_of, FiresAll}
 use Rattle.redpile_top.proofs.Held.{test_of_places, role_outside}
 

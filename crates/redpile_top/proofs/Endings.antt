@@ -1,18 +1,15 @@
 -- What an ending says of the status that it gives.
-use Rattle.std.proofs.Common.{◌≡◌, ◌⊎◌, ◌≤◌, inl, inr, ℕ, List, length, refl, sym, ap, subst, ◌∙◌, arith, Option, Some, None, Result, Ok, Err}
+use Rattle.std.proofs.Common.{◌≡◌, ◌≤◌, inl, inr, ℕ, List, length, refl, sym, ap, subst, ◌∙◌, arith, Option, Some, None, Ok, Err}
 use Rattle.circuit.specs.declared.Act.{Act}
-use Rattle.nbt.specs.Plain.{PlainRoot}
 use Rattle.nbt.proofs.Unique.{spelling_is_unique}
 use Rattle.redpile_top.specs.declared.form.Form.{Form}
 use Rattle.redpile_top.specs.declared.form.Form.TheVariants.{World}
 use Rattle.redpile_top.specs.declared.report.Fault.{Fault}
 use Rattle.redpile_top.specs.declared.report.Fault.TheVariants.{Usage as UsageFault, Read, Write, Build as BuildFault, Script as ScriptFault, Memory}
-use Rattle.redpile_top.specs.declared.status.Status.{Status}
-use Rattle.redpile_top.specs.declared.status.Status.TheVariants.{Done, ReadFault, WriteFault, BadBuild, BadScript, NoMemory}
+use Rattle.redpile_top.specs.declared.status.Status.TheVariants.{Done, BadBuild, BadScript}
 use Rattle.redpile_top.specs.File.{file, build_of}
 use Rattle.redpile_top.specs.Plan.{Plan}
-use Rattle.redpile_top.specs.Scripts.{script_of}
-use Rattle.redpile_top.specs.Clauses.{Told, Ran, Accepted, IsBuild, IsBadBuild, IsScript, IsBadScript, IsBadScriptFor, BuildClause, ScriptClause, CompleteClause, status_of, word}
+use Rattle.redpile_top.specs.Clauses.{Told, Ran, IsBuild, IsBadBuild, IsScript, IsBadScript, IsBadScriptFor, BuildClause, ScriptClause, CompleteClause, status_of}
 
 -- A file is that of one build alone.
 pub file_unique : (bytes : List ℕ) (a b : Plan) → file bytes a → file bytes b → a ≡ b

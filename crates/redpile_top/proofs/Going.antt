@@ -1,5 +1,5 @@
 -- How the writing of a run goes on.
-use Rattle.std.proofs.Common.{◌≡◌, ℕ, ◌+◌, List, [], ◌∷◌, ◌++◌, refl, sym, ap, subst, ◌∙◌, arith, Option, Some}
+use Rattle.std.proofs.Common.{◌≡◌, ℕ, ◌+◌, List, [], ◌∷◌, ◌++◌, refl, sym, ap, subst, ◌∙◌, arith, Option}
 use Rattle.std.proofs.Common.{append_assoc}
 use Rattle.std.proofs.lemmas.List.{append-nil}
 use Rattle.circuit.specs.declared.Act.{Act}
@@ -14,7 +14,7 @@ use Rattle.circuit.specs.declared.Component.TheVariants.{Lever as LeverPart}
 use Rattle.circuit.proofs.Runs.{run_exists}
 use Rattle.rp_io.specs.Causes.{appended, WrotePrefix, PartWay}
 use Rattle.rp_io.proofs.Written.{part_none, part_more, part_all, part_stopped}
-use Rattle.redpile_top.specs.Plan.{Plan, outputs, places}
+use Rattle.redpile_top.specs.Plan.{Plan, outputs}
 use Rattle.redpile_top.specs.Texts.{Moment, moments, moment_after, view_line, view_lines, header, world_trailer, world_text, all_moments}
 use Rattle.redpile_top.specs.declared.report.Cause.TheVariants.{Start}
 use Rattle.redpile_top.specs.declared.report.Cause.{Cause}

@@ -1,21 +1,19 @@
 -- What lists of cells mean for the states of the world.
-use Rattle.std.proofs.Common.{◌≡◌, ◌≢◌, ℕ, zero, suc, ◌+◌, ◌<◌, ◌≤◌, Bool, true, false, List, [], ◌∷◌, length, get_or, set, refl, sym, ◌∙◌, ap, subst, arith, below_more, Option, Some, None, inl, inr, ◌⊎◌, ℤ, pos, negsuc, cond}
-use Rattle.std.specs.Prelude.{◌==◌, ◌&&◌, slice_index_or}
-use Rattle.std.proofs.Math.Path.{fun_ext}
-use Rattle.std.proofs.lemmas.Bool.{cases_Bool, cases_eq, and_parts, eqb-true, eq-eqb, false≢true}
-use Rattle.std.proofs.lemmas.List.{get_or-set_same, get_or-set_other, length-set}
+use Rattle.std.proofs.Common.{◌≡◌, ◌≢◌, ℕ, ◌+◌, ◌<◌, Bool, true, false, List, length, get_or, set, refl, sym, ◌∙◌, ap, arith, below_more, Option, Some, None, inl, inr, ℤ, pos, negsuc, cond}
+use Rattle.std.specs.Prelude.{◌&&◌}
+use Rattle.std.proofs.lemmas.Bool.{cases_Bool, and_parts, eqb-true, eq-eqb, false≢true}
+use Rattle.std.proofs.lemmas.List.{get_or-set_same, get_or-set_other}
 use Rattle.circuit.specs.declared.Pos.{Pos}
 use Rattle.circuit.specs.declared.Component.{Component}
 use Rattle.circuit.specs.declared.Readings.{Readings}
 use Rattle.circuit.specs.declared.Cell.{Cell}
-use Rattle.circuit.specs.Circuit.{Circuit, State, outs, put, attended_at, attend}
+use Rattle.circuit.specs.Circuit.{Circuit, outs, put, attended_at, attend}
 use Rattle.circuit.specs.Keys.{IsTest}
-use Rattle.circuit.proofs.Keys.{is_key, not_key}
-use Rattle.redpile_top.specs.declared.block_table.Block.{Block}
+use Rattle.circuit.proofs.Keys.{is_key}
 use Rattle.redpile_top.specs.declared.block_table.Block.TheVariants.{Air}
-use Rattle.redpile_top.specs.Plan.{Plan, volume, in_box, entry, cell_of, place_of, block_at}
+use Rattle.redpile_top.specs.Plan.{Plan, volume, in_box, entry, cell_of, place_of}
 use Rattle.redpile_top.specs.Place.{same_int, same_place}
-use Rattle.redpile_top.specs.World.{role_at, role_of, world_circuit, nothing, state_of, stored, stored_value}
+use Rattle.redpile_top.specs.World.{role_at, world_circuit, nothing, state_of, stored}
 use Rattle.redpile_top.specs.Places.{IsInside, inside, cell_below, place-cell, entry-inside, entry-outside}
 
 int_itself : (a : ℤ) → same_int a a ≡ true

@@ -1,14 +1,13 @@
 -- The places of the box are the keys of a build's components, each once.
-use Rattle.std.proofs.Common.{◌≡◌, ◌≢◌, ℕ, zero, suc, ◌+◌, ◌<◌, ◌≤◌, List, [], ◌∷◌, map, refl, sym, ap, subst, ◌∙◌, arith, Some, ◌⊎◌, inl, inr}
+use Rattle.std.proofs.Common.{◌≡◌, ◌≢◌, ℕ, zero, suc, ◌+◌, ◌<◌, ◌≤◌, map, sym, ap, subst, ◌∙◌, arith, inl, inr}
 use Rattle.std.specs.List.{range_with_len}
 use Rattle.std.proofs.lemmas.Bool.{cases_eq}
 use Rattle.circuit.specs.declared.Pos.{Pos}
-use Rattle.circuit.specs.declared.Component.{Component}
 use Rattle.circuit.specs.Circuit.{Each, EachBefore, Among}
 use Rattle.circuit.specs.Keys.{IsListed}
 use Rattle.redpile_top.specs.Plan.{Plan, volume, places, place_of, cell_of}
 use Rattle.redpile_top.specs.Places.{place-cell, cell_below}
-use Rattle.redpile_top.specs.World.{world_circuit, role_at}
+use Rattle.redpile_top.specs.World.{world_circuit}
 use Rattle.redpile_top.proofs.Due.{cell-place, place_there}
 
 among_range : (f : ℕ → Pos) (a n i : ℕ) → a ≤ i → i < a + n → Among (map f (range_with_len a n)) (f i)

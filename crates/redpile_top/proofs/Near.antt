@@ -1,13 +1,12 @@
 -- Places near a box.
-use Rattle.std.proofs.Common.{◌≡◌, ℕ, ◌+◌, ◌<◌, ◌≤◌, Bool, true, false, ℤ, pos, negsuc, ◌+ℤ◌, ◌-ℤ◌, subst, refl, sym, ◌∙◌, ap, arith}
-use Rattle.std.specs.Prelude.{◌≤ℤ◌, neg_ℤ}
+use Rattle.std.proofs.Common.{◌≡◌, ℕ, ◌≤◌, true, subst, sym, arith}
 use Rattle.std.proofs.lemmas.Int.{ints}
 use Rattle.redpile_top.specs.declared.block_table.Side.{Side}
 use Rattle.redpile_top.specs.declared.block_table.Side.TheVariants.{Down, Up, North, South, West, East}
 use Rattle.circuit.specs.declared.Pos.{Pos}
 use Rattle.redpile_top.specs.Place.{beside}
 use Rattle.redpile_top.specs.Plan.{Plan, IsNear, IsNarrow, in_box}
-use Rattle.redpile_top.specs.Places.{IsInside, inside}
+use Rattle.redpile_top.specs.Places.{inside}
 
 pub near_inside : (b : Plan) (p : Pos) → IsNarrow b → in_box b p ≡ true → IsNear 0 p
 near_inside b p n h =

@@ -1,5 +1,5 @@
 -- No power is above 15, and no value above the greatest of its component.
-use Rattle.std.proofs.Common.{◌≡◌, ℕ, ◌≤◌, max, Bool, true, false, List, [], ◌∷◌, map, refl, sym, ap, ◌∙◌, subst, arith, inl, inr, ◌⊎◌}
+use Rattle.std.proofs.Common.{◌≡◌, ℕ, ◌≤◌, Bool, true, false, List, [], ◌∷◌, map, refl, sym, ap, ◌∙◌, subst, arith, inl, inr}
 use Rattle.std.proofs.lemmas.Bool.{cases_Bool}
 use Rattle.std.specs.Prelude.{Option, Some, None, slice_index_or}
 use Rattle.circuit.specs.declared.Pos.{Pos}
@@ -9,7 +9,7 @@ use Rattle.circuit.specs.declared.Click.{Click}
 use Rattle.circuit.specs.Component.{top, clicked}
 use Rattle.circuit.specs.declared.Component.TheVariants.{Wire, Comparator, Weighted}
 use Rattle.circuit.specs.declared.Readings.{Readings}
-use Rattle.circuit.specs.Circuit.{State, put, attend, fired_in, with_value, seen_at, seen, outs}
+use Rattle.circuit.specs.Circuit.{put, attend, fired_in, with_value, seen_at, seen, outs}
 use Rattle.redpile_top.specs.declared.build.OutPlace.{OutPlace}
 use Rattle.std.specs.Prelude.{All}
 use Rattle.std.proofs.lemmas.List.Elements.{All-map}
@@ -18,7 +18,7 @@ use Rattle.circuit.proofs.Bounded.{bounded_is_invariant}
 use Rattle.circuit.proofs.Matches.{IsInvariant}
 use Rattle.redpile_top.specs.declared.block_table.Side.{Side}
 use Rattle.redpile_top.specs.declared.block_table.Block.{Block}
-use Rattle.redpile_top.specs.declared.block_table.Block.TheVariants.{Air, Inert, Torch, WallTorch, Lever, Lamp}
+use Rattle.redpile_top.specs.declared.block_table.Block.TheVariants.{Torch, WallTorch, Lever, Lamp}
 use Rattle.redpile_top.specs.declared.block_table.Side.TheVariants.{Down}
 use Rattle.redpile_top.specs.Place.{beside, opposite, sides}
 use Rattle.redpile_top.specs.Plan.{Plan, block_at, solid_at}

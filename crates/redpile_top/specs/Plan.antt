@@ -1,8 +1,8 @@
 -- A build as plain data: what stands in each cell of a box. The cells are in order of y, then z, then x; outside of the box is air.
-use Rattle.std.specs.Prelude.{◌≡◌, ◌<◌, ◌≤◌, ◌≤ℤ◌, neg_ℤ, ℕ, ◌+◌, ◌-◌, ◌*◌, ◌/◌, ◌%◌, Bool, true, false, not, ◌&&◌, ◌||◌, ◌==◌, nat_lt, if◌then◌else◌, ℤ, pos, negsuc, List, [], ◌∷◌, map, length, slice_index, slice_index_or, Option, Some, None}
+use Rattle.std.specs.Prelude.{◌≡◌, ◌<◌, ◌≤◌, ◌≤ℤ◌, neg_ℤ, ℕ, ◌+◌, ◌*◌, ◌/◌, ◌%◌, Bool, true, false, ◌&&◌, ◌==◌, nat_lt, if◌then◌else◌, ℤ, pos, negsuc, List, map, length, slice_index_or, Option, Some, None}
 use Rattle.std.specs.List.{range_with_len, filter_map}
 use Rattle.redpile_top.specs.declared.block_table.Block.{Block}
-use Rattle.redpile_top.specs.declared.block_table.Block.TheVariants.{Air, Inert, Torch, WallTorch, Lever, Lamp}
+use Rattle.redpile_top.specs.declared.block_table.Block.TheVariants.{Air, Inert, Lamp}
 use Rattle.redpile_top.specs.declared.block_table.TheConstants.{STONE}
 use Rattle.redpile_top.specs.declared.build.OutKind.{OutKind}
 use Rattle.redpile_top.specs.declared.build.OutKind.TheVariants.{Lamp as LampOut}

@@ -1,11 +1,11 @@
 -- The power that blocks give and read, for a level at each place: the output of a component, 0 elsewhere.
 use Rattle.std.specs.Prelude.{ℕ, max, Bool, not, nat_lt, if◌then◌else◌, List, [], ◌∷◌, map}
 use Rattle.redpile_top.specs.declared.block_table.Side.{Side}
-use Rattle.redpile_top.specs.declared.block_table.Side.TheVariants.{Down, Up, North, South, West, East}
+use Rattle.redpile_top.specs.declared.block_table.Side.TheVariants.{Down, Up}
 use Rattle.redpile_top.specs.declared.block_table.Face.{Face}
 use Rattle.redpile_top.specs.declared.block_table.Face.TheVariants.{Floor, Wall, Ceiling}
 use Rattle.redpile_top.specs.declared.block_table.Block.{Block}
-use Rattle.redpile_top.specs.declared.block_table.Block.TheVariants.{Air, Inert, Torch, WallTorch, Lever, Lamp}
+use Rattle.redpile_top.specs.declared.block_table.Block.TheVariants.{Torch, WallTorch, Lever}
 use Rattle.circuit.specs.declared.Pos.{Pos}
 use Rattle.redpile_top.specs.Place.{beside, opposite, sides, same_side}
 use Rattle.redpile_top.specs.Plan.{Plan, block_at, solid_at}

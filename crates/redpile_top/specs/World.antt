@@ -1,5 +1,5 @@
 -- A build as a circuit: its components by place, and what they read of each other.
-use Rattle.std.specs.Prelude.{◌≡◌, ◌≤◌, ◌<◌, ◌==◌, ◌&&◌, not, is_some, slice_index_or, ℕ, length, Bool, true, false, List, map, Option, Some, None}
+use Rattle.std.specs.Prelude.{◌≡◌, ◌≤◌, ◌<◌, slice_index_or, ℕ, length, Bool, true, false, List, map, Option, Some, None}
 use Rattle.circuit.specs.declared.Pos.{Pos}
 use Rattle.circuit.specs.declared.Component.{Component}
 use Rattle.circuit.specs.declared.Component.TheVariants.{Lever as LeverPart, Torch as TorchPart, Lamp as LampPart}
@@ -11,7 +11,7 @@ use Rattle.circuit.specs.Circuit.{Circuit, State, IsFiringList, fire_all, seen}
 use Rattle.circuit.specs.Firing.{due_at}
 use Rattle.circuit.specs.Shows.{Shows}
 use Rattle.redpile_top.specs.declared.block_table.Block.{Block}
-use Rattle.redpile_top.specs.declared.block_table.Block.TheVariants.{Air, Inert, Torch, WallTorch, Lever, Lamp}
+use Rattle.redpile_top.specs.declared.block_table.Block.TheVariants.{Torch, WallTorch, Lever, Lamp}
 use Rattle.redpile_top.specs.declared.block_table.Side.TheVariants.{Down}
 use Rattle.redpile_top.specs.Place.{opposite, same_place}
 use Rattle.redpile_top.specs.declared.build.OutPlace.{OutPlace}

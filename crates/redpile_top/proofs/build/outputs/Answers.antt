@@ -1,6 +1,6 @@
-use Rattle.std.proofs.Common.{◌≡◌, ◌<◌, ◌+◌, ◌++◌, ◌∷◌, [], List, Vec, Global, Some, None, sym, subst, ap, ◌∙◌, arith}
+use Rattle.std.proofs.Common.{◌<◌, ◌+◌, List, Vec, Global, sym, subst, ap, ◌∙◌, arith}
 use Rattle.redpile_top.specs.declared.build.OutPlace.{OutPlace}
-use Rattle.redpile_top.specs.Plan.{Plan, volume, output_at, place_of}
+use Rattle.redpile_top.specs.Plan.{volume, output_at}
 use Rattle.redpile_top.proofs.Shown.{FoundBelow, found_no_more, found_one_more, found_all}
 use Rattle.redpile_top.proofs.build.outputs.Goals as goal
 use Rattle.redpile_top.proofs.build.outputs.Goals.{in-Some+in_ok-push, in_default}

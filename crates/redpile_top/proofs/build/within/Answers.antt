@@ -1,4 +1,4 @@
-use Rattle.std.proofs.Common.{arith, ◌≡◌, ◌<◌, ◌≤◌, pos, sym, to_z, of_z, w32, FitsSigned, nat_abs}
+use Rattle.std.proofs.Common.{arith, to_z, of_z, w32, nat_abs}
 use Rattle.std.proofs.lemmas.Int.{ints}
 use Rattle.redpile_top.specs.Places.{placed_negative, placed_within, placed_beyond}
 use Rattle.redpile_top.proofs.build.within.Goals as goal

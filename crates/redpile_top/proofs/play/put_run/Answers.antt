@@ -1,8 +1,7 @@
-use Rattle.std.proofs.Common.{◌≡◌, ◌≤◌, ◌+◌, ◌∷◌, [], List, refl, sym, ap, subst, ◌∙◌, arith}
-use Rattle.circuit.specs.declared.Step.{Step}
+use Rattle.std.proofs.Common.{◌≡◌, ◌∷◌, [], refl, sym, ap, subst, ◌∙◌, arith}
 use Rattle.circuit.specs.Shows.{steps_of}
 use Rattle.circuit.specs.Taken.{EachTaken}
-use Rattle.redpile_top.specs.Scripts.{tick_count, ticks_in}
+use Rattle.redpile_top.specs.Scripts.{tick_count}
 use Rattle.redpile_top.specs.Scripts.{steps_left}
 use Rattle.redpile_top.specs.Texts.{Moment}
 use Rattle.redpile_top.specs.Plan.{Plan}

@@ -1,4 +1,4 @@
-use Rattle.std.proofs.Common.{◌≡◌, List, ℕ, inr, sym, subst, refl, ◌∙◌}
+use Rattle.std.proofs.Common.{◌≡◌, List, ℕ, inr, sym, subst, ◌∙◌}
 use Rattle.redpile_top.specs.File.{file}
 use Rattle.redpile_top.proofs.top.accepted.Goals as goal
 

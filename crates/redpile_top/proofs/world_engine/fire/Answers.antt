@@ -1,8 +1,7 @@
-use Rattle.std.proofs.Common.{List, sym, ap, subst, ◌∙◌}
-use Rattle.circuit.specs.declared.Cell.{Cell}
+use Rattle.std.proofs.Common.{ap, ◌∙◌}
 use Rattle.circuit.specs.Circuit.{State, put, attend}
 use Rattle.circuit.specs.declared.Pos.{Pos}
-use Rattle.redpile_top.specs.World.{state_of, world_circuit, IsWithin}
+use Rattle.redpile_top.specs.World.{state_of, world_circuit}
 use Rattle.redpile_top.proofs.Within.{within_fired, within_attended}
 use Rattle.redpile_top.proofs.world_engine.fire.Goals as goal
 

@@ -1,7 +1,7 @@
 use Rattle.std.proofs.Common.{◌≡◌, true, sym, ap, subst, ◌∙◌}
 use Rattle.circuit.specs.declared.Pos.{Pos}
 use Rattle.circuit.specs.Circuit.{fire}
-use Rattle.redpile_top.specs.Plan.{in_box, place_of}
+use Rattle.redpile_top.specs.Plan.{in_box}
 use Rattle.redpile_top.specs.Places.{place_inside}
 use Rattle.redpile_top.specs.World.{world_circuit, state_of}
 use Rattle.redpile_top.proofs.Due.{fires_start, fires_next, fires_end, firing_lowers}

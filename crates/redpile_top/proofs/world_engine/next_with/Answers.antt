@@ -1,4 +1,4 @@
-use Rattle.std.proofs.Common.{ℕ, Option, Some, None, sym, subst}
+use Rattle.std.proofs.Common.{ℕ, Option, sym, subst}
 use Rattle.redpile_top.specs.World.{IsNext}
 use Rattle.redpile_top.proofs.Due.{next_skip, next_first, next_keep, next_take}
 use Rattle.redpile_top.proofs.world_engine.next_with.Goals as goal

@@ -1,4 +1,4 @@
-use Rattle.std.proofs.Common.{◌≡◌, ℕ, ap, ◌∙◌, set, Some}
+use Rattle.std.proofs.Common.{ℕ, ap, ◌∙◌, set}
 use Rattle.redpile_top.specs.Plan.{cell_of}
 use Rattle.redpile_top.specs.Places.{found-cell_of, found_inside}
 use Rattle.redpile_top.specs.World.{state_of}

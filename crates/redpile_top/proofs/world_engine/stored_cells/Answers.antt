@@ -1,4 +1,4 @@
-use Rattle.std.proofs.Common.{◌<◌, arith}
+use Rattle.std.proofs.Common.{arith}
 use Rattle.redpile_top.proofs.Held.{all-stored}
 use Rattle.redpile_top.proofs.world_engine.stored_cells.Goals as goal
 

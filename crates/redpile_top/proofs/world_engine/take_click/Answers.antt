@@ -1,7 +1,7 @@
-use Rattle.std.proofs.Common.{◌≡◌, Option, Some, None, sym, ap, ◌∙◌}
+use Rattle.std.proofs.Common.{Some, None, sym, ap, ◌∙◌}
 use Rattle.circuit.specs.declared.Pos.{Pos}
 use Rattle.circuit.specs.Circuit.{State, attend}
-use Rattle.redpile_top.specs.World.{state_of, world_circuit, role_at}
+use Rattle.redpile_top.specs.World.{state_of, world_circuit}
 use Rattle.redpile_top.proofs.Clicking.{role_there, inside_there, refused_none, refused_click, taken_click}
 use Rattle.redpile_top.proofs.Within.{within_clicked, within_attended}
 use Rattle.redpile_top.proofs.world_engine.take_click.Goals as goal

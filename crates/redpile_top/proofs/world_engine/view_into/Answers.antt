@@ -1,4 +1,4 @@
-use Rattle.std.proofs.Common.{◌≡◌, ◌≢◌, ◌<◌, ◌+◌, ℕ, length, get_or, map, sym, ◌∙◌, arith, below_more}
+use Rattle.std.proofs.Common.{◌≢◌, ◌<◌, length, map, sym, ◌∙◌, arith, below_more}
 use Rattle.std.proofs.lemmas.List.{get_or-set_same, get_or-set_other, get_or-map, length-map, ext_get_or}
 use Rattle.redpile_top.specs.World.{shown_of}
 use Rattle.redpile_top.proofs.world_engine.view_into.Goals as goal

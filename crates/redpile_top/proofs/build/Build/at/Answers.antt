@@ -1,4 +1,4 @@
-use Rattle.std.proofs.Common.{arith, ◌≡◌, ◌<◌, sym, ap, ◌∙◌, rules, length}
+use Rattle.std.proofs.Common.{sym, rules}
 use Rattle.redpile_top.specs.contracts.build.Build.{the_view}
 use Rattle.redpile_top.specs.Places.{at-below, at-read, at-missing}
 use Rattle.redpile_top.proofs.build.Build.at.Goals as goal

@@ -1,4 +1,4 @@
-use Rattle.std.proofs.Common.{◌+◌, ◌*◌, arith, ◌≡◌, ◌<◌, ◌≤◌, sym, ap, ◌∙◌, rules, refl, None, Some, Option}
+use Rattle.std.proofs.Common.{◌+◌, ◌*◌, arith, sym, ◌∙◌, refl, None, Some}
 use Rattle.redpile_top.specs.Plan.{placed}
 use Rattle.redpile_top.specs.contracts.build.Build.{the_view}
 use Rattle.redpile_top.specs.Places.{found_below, found-when, coordinate_small, small_product, large_product}

@@ -1,4 +1,4 @@
-use Rattle.std.proofs.Common.{◌≡◌, ◌≤◌, List, map, sym, ap, ◌∙◌}
+use Rattle.std.proofs.Common.{◌≤◌, List, map, ap, ◌∙◌}
 use Rattle.circuit.specs.declared.Cell.{Cell}
 use Rattle.circuit.specs.Circuit.{view}
 use Rattle.redpile_top.specs.declared.build.OutPlace.{OutPlace}
