@@ -1,4 +1,12 @@
-pub mod Unique
 pub mod Numbers
-pub mod Forms
-pub mod Steps
+pub mod Unique
+pub mod Fronts
+pub mod Elements
+pub mod Views
+pub mod Stops
+pub mod Stacks
+pub mod Growing
+pub mod Places
+pub mod Excludes
+pub mod Finding
+pub mod Appends

@@ -1,3 +1,6 @@
 pub mod Plain
 pub mod Spelling
+pub mod Faults
 pub mod Reading
+pub mod Named
+pub mod Writing

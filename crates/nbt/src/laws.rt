@@ -1,7 +1,53 @@
-ghost use Rattle.nbt.specs.Spelling.{SpellingIsUnique};
+//! What holds of the format itself. But for `written_is_read`, these calls do nothing: the contract
+//! is the law.
 
-/// No bytes spell two roots, so `read` has no choice among roots. The call does nothing: its contract
-/// is the law.
-pub fn spelling_is_unique()
-    ensures { SpellingIsUnique }
+ghost use Rattle.std.specs.Prelude.{◌≡◌, ℕ, List, [], ◌++◌, take, ◌⊎◌, IfOk};
+ghost use Rattle.nbt.specs.Plain.{PlainRoot, plain_root};
+ghost use Rattle.nbt.specs.Spelling.{spelling, CanBeSpelled, Spells};
+ghost use Rattle.nbt.specs.Faults.{IsFirstFault, Begins, IsCutLength};
+ghost use Rattle.nbt.specs.declared.refusals.NbtKind.{NbtKind};
+
+use crate::reader::read;
+use crate::refusals::NbtRefusal;
+use crate::trees::Root;
+use crate::writer::write;
+use rp_text::NoMemory;
+use std::alloc::Global;
+
+/// Writes the root and reads it again. Only want of memory stops it.
+pub fn written_is_read(alloc: Global, root: &Root) -> Result<Root, NoMemory>
+    requires { CanBeSpelled (plain_root root.now) }
+    ensures { IfOk result (λ again. plain_root again ≡ plain_root root.now) }
+{
+    let mut bytes = Vec::new(alloc);
+    write(root, &mut bytes)?;
+    match read(alloc, &bytes) {
+        Ok(again) => Ok(again),
+        Err(NbtRefusal::At { .. }) => unreachable!(),
+        Err(NbtRefusal::NoMemory) => Err(NoMemory),
+    }
+}
+
+/// Bytes spell one root at most.
+pub fn one_root()
+    ensures { (bytes : List ℕ) (a b : PlainRoot) → Spells bytes a → Spells bytes b → a ≡ b }
+{}
+
+/// No spelling is the beginning of another one, so a file says itself where it ends.
+pub fn no_longer_spelling()
+    ensures { (a b : PlainRoot) (rest : List ℕ) → CanBeSpelled a → CanBeSpelled b
+        → spelling a ++ rest ≡ spelling b → rest ≡ [] }
+{}
+
+/// Bytes that have a fault spell no root.
+pub fn a_fault_excludes()
+    ensures { (bytes : List ℕ) (place : ℕ) (kind : NbtKind) (root : PlainRoot)
+        → IsFirstFault bytes place kind → Spells bytes root → ⊥ }
+{}
+
+/// The bytes before a fault's place begin the spelling of some root, but for a length that the end
+/// of the file cuts.
+pub fn a_fault_is_the_first()
+    ensures { (bytes : List ℕ) (place : ℕ) (kind : NbtKind) → IsFirstFault bytes place kind
+        → Begins (take place bytes) ⊎ IsCutLength bytes }
 {}

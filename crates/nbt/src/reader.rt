@@ -1,163 +1,191 @@
-ghost use Rattle.std.specs.Prelude.{◌≡◌, ◌≤◌, ◌<◌, ◌^◌, [], ◌∷◌, ◌++◌, List, ℕ, length, IfOk, OnErr, IsErrOf, FitsSigned};
-ghost use Rattle.std.specs.Int.{w16, w32};
-ghost use Rattle.nbt.specs.Plain.{PlainTree, PlainFields, PlainRoot, plain_tree, plain_fields, plain_root};
-ghost use Rattle.nbt.specs.Spelling.{unsigned, signed, Spells};
-ghost use Rattle.nbt.specs.Reading.{BeginsWithName, BeginsWithTree, BeginsWithAllFields};
+//! The reader: it keeps the open compounds and lists in a vector and goes over the bytes once.
 
-use crate::refusal::NbtRefusal;
-use crate::trees::{Field, Fields, Root, Tree};
-use byteorder::{BigEndian, ByteOrder};
+ghost use Rattle.std.specs.Prelude.{◌≡◌, ◌<◌, ◌∷◌, ◌++◌, ◌^◌, length, IfOk, IfErr, MatchResult};
+ghost use Rattle.nbt.specs.Plain.{PlainRoot, plain_tree, plain_root};
+ghost use Rattle.nbt.specs.Spelling.{short_text, spelling, CanBeSpelled, Spells};
+ghost use Rattle.nbt.specs.Faults.{begun_name, IsBegun, IsRefusal};
+ghost use Rattle.nbt.specs.Reading.{plain_open, stack_of, grown, closed, HasRoom, IsCompound, IsRootOf, IsStep, StopsAt, StopsAtNext};
+
+use crate::front::cut_text;
+use crate::leaves::{cut_short, raw_of};
+use crate::open::{Open, Piece, Step, Stop};
+use crate::pieces::cut_next;
+use crate::refusals::{NbtKind, NbtRefusal};
+use crate::trees::{Field, Root, Tree};
 use rp_text::Raw;
-use std::alloc::Global;
+use std::alloc::{AllocError, Global};
 
-const SHORT: u8 = 2;
-
-const INT: u8 = 3;
-
-const BYTES: u8 = 7;
-
-const COMPOUND: u8 = 10;
-
-// How deep compounds may stand in one another. The root has depth 1.
-const MAX_DEPTH: u16 = 512;
-
-/// Reads a whole file. Memory is taken for a field only once its bytes were met, so a file's claims of
-/// length cost none.
-pub fn read(alloc: Global, bytes: &[u8]) -> Result<Root, NbtRefusal>
-    ensures ok { IfOk result (λ root. Spells bytes.now (plain_root root)) }
-    ensures refused { IsErrOf result NbtRefusal.Malformed → (other : PlainRoot) → Spells bytes.now other → ⊥ }
+/// `holder` with one more tree.
+fn attach(holder: Open, name: Raw, tree: Tree) -> Result<Open, AllocError>
+    requires { HasRoom (plain_open holder) }
+    ensures { IfOk result (λ o. plain_open o
+        ≡ grown (plain_open holder) name.items.items (plain_tree tree)) }
 {
-    let (kind, rest) = take_byte(bytes)?;
-    if kind != COMPOUND {
-        return Err(NbtRefusal::Malformed);
+    match holder {
+        Open::Compound {
+            name: own,
+            mut fields,
+        } => {
+            fields.push(Field { name, tree })?;
+            Ok(Open::Compound { name: own, fields })
+        }
+        Open::List {
+            name: own,
+            element,
+            left,
+            mut items,
+        } => {
+            items.push(tree)?;
+            Ok(Open::List {
+                name: own,
+                element,
+                left: left - 1,
+                items,
+            })
+        }
     }
-    let (name, rest) = take_name(alloc, rest)?;
-    let (fields, rest) = read_fields(alloc, rest, 1)?;
-    if !rest.is_empty() {
-        return Err(NbtRefusal::Malformed);
-    }
-    Ok(Root { name, fields })
 }
 
-// Reads the fields of a compound at this depth, up to its zero byte.
-#[cycle(compound)]
-fn read_fields(alloc: Global, bytes: &[u8], depth: u16) -> Result<(Fields, &[u8]), NbtRefusal>
-    requires { depth ≤ 512 }
-    ensures ok { IfOk result (λ r. BeginsWithAllFields depth bytes.now (plain_fields r.0.items) r.1.now) }
-    ensures refused { IsErrOf result NbtRefusal.Malformed → (fs : PlainFields) (rest : List ℕ) → BeginsWithAllFields depth bytes.now fs rest → ⊥ }
+/// What was open as a tree, and its name.
+fn close(whole: Open) -> (Raw, Tree)
+    ensures name { result.0.items.items ≡ begun_name (plain_open whole) }
+    ensures tree { plain_tree result.1 ≡ closed (plain_open whole) }
 {
-    let mut fields = Vec::new(alloc);
+    match whole {
+        Open::Compound { name, fields } => (name, Tree::Compound(fields)),
+        Open::List {
+            name,
+            element,
+            items,
+            ..
+        } => (name, Tree::List { element, items }),
+    }
+}
+
+/// The compound as a root.
+fn root_of(whole: Open) -> Root
+    requires { IsCompound (plain_open whole) }
+    ensures { IsRootOf (plain_open whole) (plain_root result) }
+{
+    match whole {
+        Open::Compound { name, fields } => Root { name, fields },
+        Open::List { .. } => unreachable!(),
+    }
+}
+
+/// Reads what comes next in `top`, which `outer` holds, outmost first.
+fn step<'a>(
+    alloc: Global,
+    top: Open,
+    outer: &mut Vec<Open>,
+    bytes: &'a [u8],
+) -> Result<Step<'a>, Stop>
+    requires { IsBegun (stack_of top outer.old.items) }
+    ensures ok { IfOk result (IsStep (stack_of top outer.old.items) bytes.now outer.new.items) }
+    ensures err { IfErr result (StopsAtNext (stack_of top outer.old.items) bytes.now) }
+{
+    let (piece, rest) = cut_next(alloc, &top, outer, bytes)?;
+    match piece {
+        Piece::Tree { name, tree } => {
+            let top = attach(top, name, tree)?;
+            Ok(Step::More { top, rest })
+        }
+        Piece::Open(inner) => {
+            outer.push(top)?;
+            Ok(Step::More { top: inner, rest })
+        }
+        Piece::End => match outer.pop() {
+            Some(holder) => {
+                let (name, tree) = close(top);
+                let top = attach(holder, name, tree)?;
+                Ok(Step::More { top, rest })
+            }
+            None => Ok(Step::Whole {
+                root: root_of(top),
+                rest,
+            }),
+        },
+    }
+}
+
+/// The fields of the root, and the bytes behind it.
+fn read_fields(alloc: Global, name: Raw, bytes: &[u8]) -> Result<(Root, &[u8]), Stop>
+    requires { length name.items.items < 2 ^ 16 }
+    ensures ok { IfOk result (λ x. CanBeSpelled (plain_root x.0)) }
+    ensures spelled { IfOk result (λ x. 10 ∷ (short_text name.items.items ++ bytes.now)
+        ≡ spelling (plain_root x.0) ++ x.1.now) }
+    ensures err { IfErr result (StopsAt (10 ∷ (short_text name.items.items ++ bytes.now))) }
+{
+    let mut top = Open::Compound {
+        name,
+        fields: Vec::new(alloc),
+    };
+    let mut outer = Vec::new(alloc);
     let mut rest = bytes;
-    'fields: loop {
-        let (kind, after_kind) = take_byte(rest)?;
-        if kind == 0 {
-            return Ok((fields, after_kind));
+    loop {
+        match step(alloc, top, &mut outer, rest)? {
+            Step::More {
+                top: next,
+                rest: behind,
+            } => {
+                top = next;
+                rest = behind;
+            }
+            Step::Whole { root, rest: behind } => return Ok((root, behind)),
         }
-        let (name, after_name) = take_name(alloc, after_kind)?;
-        let (tree, after_tree) = read_tree(alloc, kind, after_name, depth)?;
-        fields.push(Field { name, tree })?;
-        rest = after_tree;
     }
 }
 
-// Reads the payload of a tree of this type in a compound at this depth.
-#[cycle(compound)]
-fn read_tree(alloc: Global, kind: u8, bytes: &[u8], depth: u16) -> Result<(Tree, &[u8]), NbtRefusal>
-    requires { depth ≤ 512 }
-    ensures ok { IfOk result (λ r. BeginsWithTree depth kind bytes.now (plain_tree r.0) r.1.now) }
-    ensures refused { IsErrOf result NbtRefusal.Malformed → (t : PlainTree) (rest : List ℕ) → BeginsWithTree depth kind bytes.now t rest → ⊥ }
+/// The root that all of the bytes spell.
+fn read_root(alloc: Global, bytes: &[u8]) -> Result<Root, Stop>
+    ensures ok { IfOk result (λ root. CanBeSpelled (plain_root root)) }
+    ensures spelled { IfOk result (λ root. bytes.now ≡ spelling (plain_root root)) }
+    ensures err { IfErr result (StopsAt bytes.now) }
 {
-    match kind {
-        SHORT => {
-            let (number, rest) = take_i16(bytes)?;
-            Ok((Tree::Short(number), rest))
-        }
-        INT => {
-            let (number, rest) = take_i32(bytes)?;
-            Ok((Tree::Int(number), rest))
-        }
-        BYTES => {
-            let (array, rest) = take_array(alloc, bytes)?;
-            Ok((Tree::Bytes(array), rest))
-        }
-        COMPOUND if depth < MAX_DEPTH => {
-            let (fields, rest) = read_fields(alloc, bytes, depth + 1)?;
-            Ok((Tree::Compound(fields), rest))
-        }
-        _ => Err(NbtRefusal::Malformed),
+    let Some((kind, rest)) = bytes.split_first() else {
+        return Err(cut_short());
+    };
+    if *kind != 10 {
+        return Err(Stop::At {
+            left: bytes.len(),
+            kind: NbtKind::RootNotCompound,
+        });
     }
-}
-
-// A name: two bytes of length, and its bytes.
-fn take_name(alloc: Global, bytes: &[u8]) -> Result<(Raw, &[u8]), NbtRefusal>
-    ensures ok { IfOk result (λ r. BeginsWithName bytes.now r.0.items.items r.1.now) }
-    ensures refused { IsErrOf result NbtRefusal.Malformed → (name rest : List ℕ) → BeginsWithName bytes.now name rest → ⊥ }
-{
-    let (size, rest) = take_u16(bytes)?;
-    take_raw(alloc, rest, usize::from(size))
-}
-
-// An array: four bytes of length, which is not negative, and its bytes.
-fn take_array(alloc: Global, bytes: &[u8]) -> Result<(Raw, &[u8]), NbtRefusal>
-    ensures ok { IfOk result (λ r. BeginsWithTree 1 7 bytes.now (PlainTree.bytes r.0.items.items) r.1.now) }
-    ensures refused { IsErrOf result NbtRefusal.Malformed → (bs rest : List ℕ) → BeginsWithTree 1 7 bytes.now (PlainTree.bytes bs) rest → ⊥ }
-{
-    let (size, rest) = take_i32(bytes)?;
-    if size < 0 {
-        return Err(NbtRefusal::Malformed);
+    let Some((name, rest)) = cut_text(rest) else {
+        return Err(cut_short());
+    };
+    let name = raw_of(alloc, name)?;
+    let (root, rest) = read_fields(alloc, name, rest)?;
+    if !rest.is_empty() {
+        return Err(Stop::At {
+            left: rest.len(),
+            kind: NbtKind::Trailing,
+        });
     }
-    take_raw(alloc, rest, size as usize)
+    Ok(root)
 }
 
-// A copy of the first `size` bytes, where there are so many.
-fn take_raw(alloc: Global, bytes: &[u8], size: usize) -> Result<(Raw, &[u8]), NbtRefusal>
-    ensures ok { IfOk result (λ r. bytes.now ≡ r.0.items.items ++ r.1.now) }
-    ensures size { IfOk result (λ r. length r.0.items.items ≡ size) }
-    ensures refused { IsErrOf result NbtRefusal.Malformed → length bytes.now < size }
-{
-    let Some((front, rest)) = bytes.split_at_checked(size) else {
-        return Err(NbtRefusal::Malformed);
-    };
-    let items = Vec::from_slice(alloc, front)?;
-    Ok((Raw { items }, rest))
-}
+/// Reads an NBT file that is not compressed. It takes memory for what was met in the bytes alone,
+/// and goes over them once. A refusal names the first fault from the left and its place, a count of
+/// bytes from the start of the file.
+pub fn read(alloc: Global, bytes: &[u8]) -> Result<Root, NbtRefusal>
+    // What is read is spelled so.
+    ensures ok { IfOk result (λ root. Spells bytes.now (plain_root root)) }
 
-fn take_byte(bytes: &[u8]) -> Result<(u8, &[u8]), NbtRefusal>
-    ensures ok { IfOk result (λ r. bytes.now ≡ r.0 ∷ r.1.now) }
-    ensures refused { OnErr result (bytes.now ≡ []) }
+    // What is spelled so is read, unless memory runs out.
+    ensures spelled { (root : PlainRoot) → Spells bytes.now root
+        → MatchResult result (λ found. plain_root found ≡ root)
+        (λ refusal. refusal ≡ NbtRefusal.NoMemory) }
+
+    // Which fault it is. No root has bytes with a fault.
+    ensures fault { IfErr result (IsRefusal bytes.now) }
 {
-    match bytes.split_first() {
-        Some((first, rest)) => Ok((*first, rest)),
-        None => Err(NbtRefusal::Malformed),
+    match read_root(alloc, bytes) {
+        Ok(root) => Ok(root),
+        Err(Stop::At { left, kind }) => {
+            let place = (bytes.len() - left) as u64;
+            Err(NbtRefusal::At { place, kind })
+        }
+        Err(Stop::NoMemory) => Err(NbtRefusal::NoMemory),
     }
-}
-
-fn take_u16(bytes: &[u8]) -> Result<(u16, &[u8]), NbtRefusal>
-    ensures ok { IfOk result (λ r. bytes.now ≡ unsigned w16 r.0 ++ r.1.now) }
-    ensures refused { OnErr result (length bytes.now < 2) }
-{
-    let Some((number, rest)) = bytes.split_at_checked(2) else {
-        return Err(NbtRefusal::Malformed);
-    };
-    Ok((BigEndian::read_u16(number), rest))
-}
-
-fn take_i16(bytes: &[u8]) -> Result<(i16, &[u8]), NbtRefusal>
-    ensures ok { IfOk result (λ r. bytes.now ≡ signed w16 r.0 ++ r.1.now) }
-    ensures refused { OnErr result (length bytes.now < 2) }
-{
-    let Some((number, rest)) = bytes.split_at_checked(2) else {
-        return Err(NbtRefusal::Malformed);
-    };
-    Ok((BigEndian::read_i16(number), rest))
-}
-
-fn take_i32(bytes: &[u8]) -> Result<(i32, &[u8]), NbtRefusal>
-    ensures ok { IfOk result (λ r. bytes.now ≡ signed w32 r.0 ++ r.1.now) }
-    ensures refused { OnErr result (length bytes.now < 4) }
-{
-    let Some((number, rest)) = bytes.split_at_checked(4) else {
-        return Err(NbtRefusal::Malformed);
-    };
-    Ok((BigEndian::read_i32(number), rest))
 }

@@ -1,154 +1,147 @@
-use super::*;
+use crate::{NbtKind, NbtRefusal, Root, Tree, find_field, read, write, written_is_read};
 use std::alloc::{AllocError, Global};
 use std::test::Fail;
 
-// A box of no cells, as a file of version 2 of the Sponge format.
-const EMPTY_BOX: &[u8; 86] =
-    b"\x0a\x00\x09Schematic\x03\x00\x07Version\x00\x00\x00\x02\x02\x00\x05Width\x00\x00\x02\x00\x06Height\x00\x00\x02\x00\x06Length\x00\x00\x0a\x00\x07Palette\x00\x07\x00\x09BlockData\x00\x00\x00\x00\x00";
+/// A file with every type: empty lists and arrays, a list of lists, a list of compounds, and two
+/// fields of one name.
+const EVERY_TYPE: &[u8] = b"\x0a\x00\x04root\
+    \x01\x00\x01a\xff\
+    \x02\x00\x01b\x01\x00\
+    \x03\x00\x01c\x80\x00\x00\x00\
+    \x04\x00\x01d\x00\x00\x00\x00\x00\x00\x00\x07\
+    \x05\x00\x01e\x3f\x80\x00\x00\
+    \x06\x00\x01f\x40\x09\x21\xfb\x54\x44\x2d\x18\
+    \x07\x00\x01g\x00\x00\x00\x02\x01\x02\
+    \x08\x00\x01h\x00\x02hi\
+    \x09\x00\x01i\x00\x00\x00\x00\x00\
+    \x09\x00\x01j\x03\x00\x00\x00\x01\x00\x00\x00\x05\
+    \x09\x00\x01k\x09\x00\x00\x00\x02\x01\x00\x00\x00\x01\x07\x00\x00\x00\x00\x00\
+    \x09\x00\x01l\x0a\x00\x00\x00\x02\x01\x00\x01x\x01\x00\x00\
+    \x0a\x00\x01m\x00\
+    \x0b\x00\x01n\x00\x00\x00\x01\xff\xff\xff\xff\
+    \x0c\x00\x01o\x00\x00\x00\x00\
+    \x09\x00\x01p\x08\x00\x00\x00\x00\
+    \x01\x00\x01a\x02\
+    \x00";
 
-// An outer compound with a compound "a" and an int "c". In "a" stand a short "b" of -2 and an array of two bytes
-// with an empty name.
-const NESTED: &[u8] =
-    b"\x0a\x00\x00\x0a\x00\x01a\x02\x00\x01b\xff\xfe\x07\x00\x00\x00\x00\x00\x02\x07\x08\x00\x03\x00\x01c\x80\x00\x00\x00\x00";
-
-fn short_of(tree: &Tree) -> Option<i16> {
-    match tree {
-        Tree::Short(number) => Some(*number),
-        _ => None,
-    }
+fn refusal(alloc: Global, bytes: &[u8]) -> Option<NbtRefusal> {
+    read(alloc, bytes).err()
 }
 
-fn int_of(tree: &Tree) -> Option<i32> {
-    match tree {
-        Tree::Int(number) => Some(*number),
-        _ => None,
-    }
-}
-
-fn bytes_of(tree: &Tree) -> Option<&[u8]> {
-    match tree {
-        Tree::Bytes(raw) => Some(raw.items.as_slice()),
-        _ => None,
-    }
-}
-
-fn fields_of(tree: &Tree) -> Option<&Fields> {
-    match tree {
-        Tree::Compound(fields) => Some(fields),
-        _ => None,
-    }
-}
-
-fn is_malformed(alloc: Global, bytes: &[u8]) -> bool {
-    match read(alloc, bytes) {
-        Err(NbtRefusal::Malformed) => true,
-        _ => false,
-    }
-}
-
-// So many compounds in one another, all without a name.
-fn compounds(alloc: Global, depth: usize) -> Result<Vec<u8>, AllocError> {
+/// So many compounds inside one another.
+fn nested(alloc: Global, depth: usize) -> Result<Vec<u8>, AllocError> {
     let mut bytes = Vec::new(alloc);
     for _ in 0..depth {
         bytes.extend_from_slice(b"\x0a\x00\x00")?;
     }
     for _ in 0..depth {
-        bytes.extend_from_slice(b"\x00")?;
+        bytes.push(0)?;
     }
     Ok(bytes)
 }
 
 #[test]
-fn empty_box(rt: HostRuntime) -> Result<(), Fail> {
-    let root = read(rt.alloc(), EMPTY_BOX)?;
-    assert_eq!(rt; root.name.items.as_slice(), b"Schematic".as_slice());
-    assert_eq!(rt; root.fields.len(), 6);
-    let names: [&[u8]; 6] = [
-        b"Version",
-        b"Width",
-        b"Height",
-        b"Length",
-        b"Palette",
-        b"BlockData",
-    ];
-    for (field, name) in root.fields.iter().zip(names) {
-        assert_eq!(rt; field.name.items.as_slice(), name);
-    }
-    assert_eq!(rt; int_of(&root.fields[0].tree), Some(2));
-    assert_eq!(rt; short_of(&root.fields[1].tree), Some(0));
-    assert_eq!(rt; short_of(&root.fields[2].tree), Some(0));
-    assert_eq!(rt; short_of(&root.fields[3].tree), Some(0));
-    let palette = fields_of(&root.fields[4].tree).ok_or("no compound")?;
-    assert_eq!(rt; palette.len(), 0);
-    let cells = bytes_of(&root.fields[5].tree).ok_or("no array")?;
-    assert_eq!(rt; cells.len(), 0);
-    Ok(())
-}
-
-#[test]
-fn cut_and_longer_files(rt: HostRuntime) -> Result<(), Fail> {
-    for end in 0..EMPTY_BOX.len() {
-        assert!(rt; is_malformed(rt.alloc(), &EMPTY_BOX[..end]), "{end}");
-    }
-    let mut longer = Vec::from_slice(rt.alloc(), EMPTY_BOX)?;
-    longer.push(0)?;
-    assert!(rt; is_malformed(rt.alloc(), longer.as_slice()));
-    Ok(())
-}
-
-#[test]
-fn nested_compounds(rt: HostRuntime) -> Result<(), Fail> {
-    let root = read(rt.alloc(), NESTED)?;
-    assert_eq!(rt; root.name.items.len(), 0);
-    assert_eq!(rt; root.fields.len(), 2);
-    assert_eq!(rt; int_of(&root.fields[1].tree), Some(-2_147_483_648));
-    let inner = fields_of(&root.fields[0].tree).ok_or("no compound")?;
-    assert_eq!(rt; inner.len(), 2);
-    assert_eq!(rt; inner[0].name.items.as_slice(), b"b".as_slice());
-    assert_eq!(rt; short_of(&inner[0].tree), Some(-2));
-    assert_eq!(rt; bytes_of(&inner[1].tree), Some([7u8, 8].as_slice()));
-    Ok(())
-}
-
-#[test]
-fn malformed_files(rt: HostRuntime) -> Result<(), Fail> {
-    let cases: [(&str, &[u8]); 9] = [
-        ("type 8", b"\x0a\x00\x00\x08\x00\x01a\x00\x00\x00"),
+fn hostile_files(rt: HostRuntime) {
+    let cases: [(&[u8], u64, NbtKind); 13] = [
         (
-            "type 9",
-            b"\x0a\x00\x00\x09\x00\x01a\x00\x00\x00\x00\x00\x00",
-        ),
-        ("type 13", b"\x0a\x00\x00\x0d"),
-        ("root that is an int", b"\x03\x00\x00\x00\x00\x00\x00"),
-        ("root of type 1", b"\x01"),
-        (
-            "array longer than the file",
-            b"\x0a\x00\x00\x07\x00\x01a\x7f\xff\xff\xff\x00",
-        ),
-        (
-            "array of length -1",
             b"\x0a\x00\x00\x07\x00\x01a\xff\xff\xff\xff\x00",
+            7,
+            NbtKind::BadLength,
         ),
-        ("name longer than the file", b"\x0a\xff\xffa\x00"),
-        ("no file", b""),
+        (b"\x0a\x00\x00\x0d", 3, NbtKind::BadType),
+        (b"\x01", 0, NbtKind::RootNotCompound),
+        (
+            b"\x0a\x00\x00\x07\x00\x01a\x7f\xff\xff\xff\x00",
+            12,
+            NbtKind::Truncated,
+        ),
+        (
+            b"\x0a\x00\x00\x09\x00\x01a\x0d\x00\x00\x00\x01",
+            7,
+            NbtKind::BadType,
+        ),
+        (
+            b"\x0a\x00\x00\x09\x00\x01a\x00\x00\x00\x00\x01\x00",
+            8,
+            NbtKind::BadLength,
+        ),
+        (
+            b"\x0a\x00\x00\x0c\x00\x01a\xff\xff\xff\xff",
+            7,
+            NbtKind::BadLength,
+        ),
+        (
+            b"\x0a\x00\x00\x09\x00\x01a\x0a\xff\xff\xff\xff",
+            8,
+            NbtKind::BadLength,
+        ),
+        (
+            b"\x0a\x00\x00\x0b\x00\x01a\xff\xff\xff",
+            10,
+            NbtKind::Truncated,
+        ),
+        (b"\x0a\x00\x00\x00\x00", 4, NbtKind::Trailing),
+        (b"\x0a\x00\x00", 3, NbtKind::Truncated),
+        (b"\x0a", 1, NbtKind::Truncated),
+        (b"", 0, NbtKind::Truncated),
     ];
-    for (name, bytes) in cases {
-        assert!(rt; is_malformed(rt.alloc(), bytes), "{name}");
+    for (bytes, place, kind) in &cases {
+        let fault = NbtRefusal::At {
+            place: *place,
+            kind: *kind,
+        };
+        assert_eq!(rt; refusal(rt.alloc(), bytes), Some(fault));
     }
+    let below_zero = b"\x0a\x00\x00\x09\x00\x01a\x00\xff\xff\xff\xff\x00";
+    assert_eq!(rt; refusal(rt.alloc(), below_zero), None);
+}
+
+#[test]
+fn hostile_nbt(rt: HostRuntime) -> Result<(), Fail> {
+    let deepest = nested(rt.alloc(), 512)?;
+    assert_eq!(rt; refusal(rt.alloc(), &deepest), None);
+    let deeper = nested(rt.alloc(), 513)?;
+    let fault = NbtRefusal::At {
+        place: 1536,
+        kind: NbtKind::TooDeep,
+    };
+    assert_eq!(rt; refusal(rt.alloc(), &deeper), Some(fault));
     Ok(())
 }
 
 #[test]
-fn depths(rt: HostRuntime) -> Result<(), Fail> {
-    let deepest = compounds(rt.alloc(), 512)?;
-    let root = read(rt.alloc(), deepest.as_slice())?;
-    assert_eq!(rt; root.fields.len(), 1);
-    let deeper = compounds(rt.alloc(), 513)?;
-    assert!(rt; is_malformed(rt.alloc(), deeper.as_slice()));
-    Ok(())
+fn every_proper_prefix(rt: HostRuntime) {
+    for k in 0..EVERY_TYPE.len() {
+        let fault = NbtRefusal::At {
+            place: k as u64,
+            kind: NbtKind::Truncated,
+        };
+        assert_eq!(rt; refusal(rt.alloc(), &EVERY_TYPE[..k]), Some(fault));
+    }
+}
+
+fn byte_of(root: &Root, name: &[u8]) -> Option<i8> {
+    match find_field(&root.fields, name)? {
+        Tree::Byte(number) => Some(*number),
+        _ => None,
+    }
 }
 
 #[test]
-fn law() {
-    spelling_is_unique();
+fn every_type_both_ways(rt: HostRuntime) -> Result<(), Fail> {
+    let root = match read(rt.alloc(), EVERY_TYPE) {
+        Ok(root) => root,
+        Err(_) => return Err(Fail::from("refused")),
+    };
+    assert_eq!(rt; root.name.items.as_slice(), b"root".as_slice());
+    assert_eq!(rt; root.fields.len(), 17);
+    assert_eq!(rt; byte_of(&root, b"a"), Some(2));
+    assert_eq!(rt; find_field(&root.fields, b"z").is_none(), true);
+    let mut out = Vec::new(rt.alloc());
+    out.push(7)?;
+    assert_eq!(rt; write(&root, &mut out).is_ok(), true);
+    assert_eq!(rt; &out[1..], EVERY_TYPE);
+    let again = written_is_read(rt.alloc(), &root)?;
+    assert_eq!(rt; byte_of(&again, b"a"), Some(2));
+    Ok(())
 }

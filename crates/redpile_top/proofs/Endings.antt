@@ -1,7 +1,7 @@
 -- What an ending says of the status that it gives.
 use Rattle.std.proofs.Common.{◌≡◌, ◌≤◌, inl, inr, ℕ, List, length, refl, sym, ap, subst, ◌∙◌, arith, Option, Some, None, Ok, Err}
 use Rattle.circuit.specs.declared.Act.{Act}
-use Rattle.nbt.proofs.Unique.{spelling_is_unique}
+use Rattle.nbt.proofs.Unique.{one-root}
 use Rattle.redpile_top.specs.declared.form.Form.{Form}
 use Rattle.redpile_top.specs.declared.form.Form.TheVariants.{World}
 use Rattle.redpile_top.specs.declared.report.Fault.{Fault}
@@ -14,7 +14,7 @@ use Rattle.redpile_top.specs.Clauses.{Told, Ran, IsBuild, IsBadBuild, IsScript, 
 -- A file is that of one build alone.
 pub file_unique : (bytes : List ℕ) (a b : Plan) → file bytes a → file bytes b → a ≡ b
 file_unique bytes a b one two =
-    let same : one.root ≡ two.root = spelling_is_unique one.root two.root bytes one.spells two.spells in
+    let same : one.root ≡ two.root = one-root bytes one.root two.root one.spells two.spells in
     let e : Some a ≡ Some b = sym one.means ∙ ap build_of same ∙ two.means in cc
 
 not_bad_build : (bytes : List ℕ) (build : Plan) → IsBuild build bytes → IsBadBuild bytes → ⊥

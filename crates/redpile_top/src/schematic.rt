@@ -306,7 +306,7 @@ pub fn read_build(alloc: Global, bytes: &[u8]) -> Result<Build, BuildRefusal>
 {
     match nbt::read(alloc, bytes) {
         Ok(root) => build_of_root(alloc, &root),
-        Err(NbtRefusal::Malformed) => Err(BuildRefusal::Refused),
+        Err(NbtRefusal::At { .. }) => Err(BuildRefusal::Refused),
         Err(NbtRefusal::NoMemory) => Err(BuildRefusal::NoMemory),
     }
 }

@@ -1,0 +1,18 @@
+use Rattle.std.proofs.Common.{◌<◌, ℕ, ◌∙◌, subst, length, arith}
+use Rattle.nbt.proofs.Fronts.{cut-text-length, cut-text-bytes, text-front}
+use Rattle.nbt.proofs.front.cut_text.Goals as goal
+
+pub returns-in_err-count-clause-none : goal.returns-in_err-count-clause-none
+returns-in_err-count-clause-none c =
+    rw c.from_residual.ensures (cut-text-length c.args.bytes.now (λ i. omega (arith, c.type_inv.bytes i)) c.in_err-count.ensures.none)
+
+pub returns-in_err-text-clause-none : goal.returns-in_err-text-clause-none
+returns-in_err-text-clause-none c =
+    let rest = c.in_ok-count.rest.now in
+    let few = subst (λ (n : ℕ). length rest < n) c.from.ensures c.in_err-text.ensures.none in
+    rw c.from_residual-in_err-text.ensures (cut-text-bytes c.args.bytes.now rest c.in_ok-count.count c.in_ok-count.ensures.limit c.in_ok-count.ensures.some few)
+
+pub returns-clause-some : goal.returns-clause-some
+returns-clause-some c =
+    text-front c.args.bytes.now c.in_ok-count.rest.now c.in_ok-text.rest.now c.in_ok-text.text.now c.in_ok-count.count
+    c.in_ok-count.ensures.some c.in_ok-text.ensures.some (c.in_ok-text.ensures.count ∙ c.from.ensures)
