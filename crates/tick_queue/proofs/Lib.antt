@@ -1,0 +1,5 @@
+pub mod NodeSteps
+pub mod OrderSteps
+pub mod RingCalls
+pub mod RingSteps
+pub mod TickSteps

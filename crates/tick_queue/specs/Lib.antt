@@ -1,0 +1,4 @@
+pub mod Nodes
+pub mod Ring
+pub mod RingLaws
+pub mod Ticks

@@ -1,0 +1,7 @@
+pub mod Net
+pub mod Laws
+pub mod Sweeps
+pub mod Listed
+pub mod WaveSteps
+pub mod Ready
+pub mod HandNet

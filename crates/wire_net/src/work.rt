@@ -1,0 +1,57 @@
+//! What `resolve` keeps from call to call.
+
+ghost use Rattle.std.specs.Prelude.{◌≡◌, ℕ, List, IfOk, vec_capacity};
+ghost use Rattle.wire_net.specs.Net.{feeders_of};
+ghost use Rattle.wire_net.specs.Ready.{IsReady};
+
+use crate::Net;
+use crate::cell_lists::CellLists;
+use rp_text::NoMemory;
+use std::alloc::Global;
+use std::marker::Model;
+
+/// The cells and feeders of a net, also turned round, so that each cell knows the cells that it
+/// feeds, and the room that `resolve` needs. Contracts see it as the feeders of each cell.
+#[derive(Drop)]
+pub struct Work {
+    pub(crate) feeders: CellLists,
+    pub(crate) fed: CellLists,
+    // The cells that fell to 0 in the call.
+    pub(crate) fallen: Vec<u32>,
+    // The cells that rose in the call, by the power that they rose to.
+    pub(crate) levels: CellLists,
+}
+
+impl Model for Work {
+    ghost Value = { List (List ℕ) };
+
+    ghost view = { λ w. w.feeders.lists };
+
+    ghost invariant = { λ w. IsReady w.feeders w.fed w.levels (vec_capacity w.fallen) };
+}
+
+impl Work {
+    /// Work for this net, and for each other net with the same cells and feeders.
+    pub fn new<N: Net>(alloc: Global, net: &N) -> Result<Work, NoMemory>
+        ensures { IfOk result (λ work. work ≡ feeders_of (N.net net.now)) }
+    {
+        let cells = net.cells() as usize;
+        let mut feeders = CellLists::new(alloc, cells, 0)?;
+        let mut fed = CellLists::new(alloc, cells, 0)?;
+        for cell in 0..net.cells() {
+            for index in 0..net.feeder_count(cell) {
+                let feeder = net.feeder(cell, index);
+                feeders.push(cell as usize, feeder)?;
+                fed.push(feeder as usize, cell)?;
+            }
+        }
+        let fallen = Vec::with_capacity(alloc, cells)?;
+        let levels = CellLists::new(alloc, 16, cells)?;
+        Ok(Work {
+            feeders,
+            fed,
+            fallen,
+            levels,
+        })
+    }
+}
