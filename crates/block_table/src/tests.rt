@@ -1,3 +1,5 @@
+mod every_name;
+
 use super::*;
 use crate::names::{Kind, TABLE};
 use std::alloc::Global;
