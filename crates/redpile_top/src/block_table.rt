@@ -68,6 +68,7 @@ pub fn opposite(side: Side) -> Side
     }
 }
 
+/// Whether two sides are one.
 pub fn same_side(a: Side, b: Side) -> bool
     ensures { result ≡ same_side a b }
 {

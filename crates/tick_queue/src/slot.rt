@@ -1,4 +1,5 @@
-// A slot of a ring: keys, first in, first out, in nodes that go from one list to another.
+//! A slot of a ring: keys, first in, first out, in nodes that go from one list to another.
+
 ghost use Rattle.std.specs.Prelude.{◌≡◌, ℕ, ◌+◌, ◌<◌, ◌^◌, [], ◌∷◌, ◌++◌, List, length, take, drop, IfSome, OnOk, OnErr, map};
 ghost use Rattle.std.specs.Option.{option_to_list};
 ghost use Rattle.tick_queue.specs.declared.Tick.{Tick};
@@ -10,9 +11,10 @@ use std::collections::LinkedList;
 use std::marker::Model;
 use std::mem::swap;
 
-// Nodes for keys. A spare node holds none, or one that it held before.
+/// Nodes for keys. A spare node holds none, or one that it held before.
 pub type Nodes<K> = LinkedList<Option<K>>;
 
+/// The keys of one due time and one priority, the first added first.
 #[derive(Drop)]
 pub struct Slot<K> {
     nodes: Nodes<K>,
@@ -31,6 +33,7 @@ impl<K> Model for Slot<K> {
 }
 
 impl<K: Copy> Slot<K> {
+    /// No key.
     pub fn new(alloc: Global) -> Self
         ensures { result ≡ [] }
     {
@@ -39,7 +42,7 @@ impl<K: Copy> Slot<K> {
         }
     }
 
-    // Puts the key behind the others, in the first of the spare nodes.
+    /// Puts the key behind the others, in the first of the spare nodes.
     pub fn put(&mut self, spare: &mut Nodes<K>, key: K)
         requires some { 0 < length spare.old }
         requires few { length self.old + length spare.old < 2 ^ 63 }
@@ -51,7 +54,7 @@ impl<K: Copy> Slot<K> {
         self.nodes.append(&mut node).unwrap();
     }
 
-    // Takes the first key out, and puts its node to the spare ones.
+    /// Takes the first key out, and puts its node to the spare ones.
     pub fn take(&mut self, spare: &mut Nodes<K>) -> Option<K>
         requires few { length self.old + length spare.old < 2 ^ 63 }
         ensures keys { self.old ≡ option_to_list result ++ self.new }
@@ -64,7 +67,7 @@ impl<K: Copy> Slot<K> {
         Some(key)
     }
 
-    // Appends a tick for each key.
+    /// Appends a tick for each key. After an error some of them stand there.
     pub fn list_onto(&self, due: u64, priority: u8, all: &mut Vec<Tick<K>>) -> Result<(), NoMemory>
         ensures { OnOk result (all.new.items ≡ all.old.items ++ map (λ key. record { due = due; priority = priority; key = key }) self.now) }
     {
@@ -77,7 +80,7 @@ impl<K: Copy> Slot<K> {
     }
 }
 
-// Splits the first node off. No node is made or freed.
+/// Splits the first node off. No node is made or freed.
 fn split_first<K>(nodes: &mut Nodes<K>) -> Nodes<K>
     requires { 0 < length nodes.old }
     ensures first { result ≡ take 1 nodes.old }
@@ -88,7 +91,7 @@ fn split_first<K>(nodes: &mut Nodes<K>) -> Nodes<K>
     rest
 }
 
-// Writes the key into a lone node.
+/// Writes the key into a lone node.
 fn fill<K: Copy>(node: &mut Nodes<K>, key: K)
     requires { length node.old ≡ 1 }
     ensures { node.new ≡ Some key ∷ [] }
