@@ -5,3 +5,4 @@ pub mod ChosenSteps
 pub mod TextSteps
 pub mod BlockSteps
 pub mod ListedSteps
+pub mod SlotSteps

@@ -13,7 +13,7 @@ pub use rules::{
 };
 
 /// A place in the world.
-#[derive(Clone, Copy, PartialEq, Eq, Debug)]
+#[derive(Clone, Copy, PartialEq, Eq, Hash, Debug)]
 pub struct Pos {
     pub x: i32,
     pub y: i32,

@@ -1,7 +1,7 @@
 //! How far items stack, and the strength that the items of a container give.
 #![tactic(auto)]
 
-ghost use Rattle.std.specs.Prelude.{◌≡◌, ◌≤◌, ◌<◌, ◌==◌, ◌^◌, All, map, length};
+ghost use Rattle.std.specs.Prelude.{◌≡◌, ◌≤◌, ◌<◌, ◌==◌, ◌^◌, All, map};
 ghost use Rattle.std.specs.List.{list_any, starts_with};
 ghost use Rattle.std.specs.Str.{bytes_eq};
 ghost use Rattle.item_table.specs.Stacks.{stack_size_of, without_namespace, is_among as is_listed_in, stacked_by_sixteen, unstacked};
@@ -76,7 +76,6 @@ fn contains_text(listed: &[&str], name: &[u8]) -> bool
 pub fn strength(slots: u8, items: &[ItemCount]) -> u8
     requires slots { 1 ≤ slots }
     requires sizes { All IsSized items.now }
-    requires few { length items.now ≤ 2147483647 }
     ensures { result ≡ strength_of slots items.now }
 {
     let sum = stacked_sum(items);
@@ -90,9 +89,8 @@ pub fn strength(slots: u8, items: &[ItemCount]) -> u8
 /// The number of items as if all stacked to 64.
 fn stacked_sum(items: &[ItemCount]) -> u128
     requires sizes { All IsSized items.now }
-    requires few { length items.now ≤ 2147483647 }
     ensures value { result ≡ stacked_sum items.now }
-    ensures small { result < 2 ^ 70 }
+    ensures small { result < 2 ^ 110 }
 {
     let mut sum = 0;
     for item in items {

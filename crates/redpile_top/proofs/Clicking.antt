@@ -8,8 +8,8 @@ use Rattle.circuit.specs.Component.{clicked}
 use Rattle.circuit.specs.Circuit.{put, attend, with_value, Clicks}
 use Rattle.circuit.specs.Taken.{Takes}
 use Rattle.circuit.proofs.Runs.{clicked_where_taken}
-use Rattle.redpile_top.specs.declared.block_table.Block.{Block}
-use Rattle.redpile_top.specs.Plan.{Plan, block_at, entry, in_box}
+use Rattle.block_table.specs.declared.Block.{Block}
+use Rattle.build.specs.Plan.{Plan, block_at, entry, in_box}
 use Rattle.redpile_top.specs.World.{role_of, role_at, world_circuit, state_of, nothing}
 use Rattle.redpile_top.proofs.Held.{role_outside}
 use Rattle.std.proofs.lemmas.Bool.{cases_Bool}

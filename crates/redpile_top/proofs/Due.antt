@@ -10,8 +10,8 @@ use Rattle.circuit.specs.Circuit.{Circuit, State, IsDue, fire, fire_all}
 use Rattle.circuit.specs.Firing.{Fires, NoneDue, FiresNext}
 use Rattle.circuit.proofs.FiringLaw.{fire_makes_none_due, fires_is_firing_list}
 use Rattle.circuit.proofs.Runs.{due_at-true, due_at_from}
-use Rattle.redpile_top.specs.Plan.{Plan, volume, in_box, entry, cell_of, place_of}
-use Rattle.redpile_top.specs.Places.{IsInside, inside, cell_below, place-cell, place_inside, entry-inside}
+use Rattle.build.specs.Plan.{Plan, volume, in_box, entry, cell_of, place_of}
+use Rattle.build.specs.Places.{IsInside, inside, cell_below, place-cell, place_inside, entry-inside}
 use Rattle.redpile_top.specs.World.{nothing, due_in, IsNext, role_at, world_circuit, state_of, FiresAll}
 use Rattle.redpile_top.proofs.Held.{test_of_places, role_outside}
 

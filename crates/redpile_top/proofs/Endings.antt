@@ -1,75 +1,263 @@
 -- What an ending says of the status that it gives.
-use Rattle.std.proofs.Common.{◌≡◌, ◌≤◌, inl, inr, ℕ, List, length, refl, sym, ap, subst, ◌∙◌, arith, Option, Some, None, Ok, Err}
-use Rattle.circuit.specs.declared.Act.{Act}
-use Rattle.nbt.proofs.Unique.{one-root}
+use Rattle.std.proofs.Common.{◌≡◌, ◌⊎◌, ◌≤◌, ◌<◌, inl, inr, ℕ, Bool, true, false, List, length, refl, sym, ap, subst, ◌∙◌, arith, Option, Some, None, Result, Ok, Err, OnOk, OnErr}
+use Rattle.std.proofs.lemmas.Bool.{cases_Bool}
+use Rattle.build.specs.Plan.{Plan}
+use Rattle.schematic.specs.File.{Refusal, compressed, nbt, missing_field, wrong_field, wrong_version, too_large, palette_clash, wrong_cells, unknown_block, wrong_signal, wrong_pending, file, is_own, plain_refusal, IsFirstRefusal}
+use Rattle.schematic.proofs.Verdicts.{same_build, not_both, one_cause}
+use Rattle.script.specs.declared.ScriptKind.{ScriptKind}
+use Rattle.script.specs.declared.ScriptRefusal.{ScriptRefusal}
+use Rattle.script.specs.declared.ScriptRefusal.TheVariants.{Line, NoMemory as NoMemoryOfScript}
+use Rattle.script.specs.Acts.{Meaning}
+use Rattle.script.specs.Clickable.{takes_click, is_wire_at}
+use Rattle.script.specs.Scripts.{script_of}
+use Rattle.report.specs.declared.Fault.{Fault}
+use Rattle.report.specs.declared.Fault.TheVariants.{Usage as UsageFault, Read, Write, Build as BuildFault, BuildTooLong, Script as ScriptFault, ScriptTooLong, Memory, Order, OrderTooLong, Graph, GraphTooLong}
+use Rattle.report.specs.declared.GraphRefusal.{GraphRefusal}
+use Rattle.report.specs.declared.GraphRefusal.TheVariants.{NoMemory as NoMemoryOfGraph}
+use Rattle.rp_io.specs.Causes.{Rose, HasCause, Wrote, WrotePrefix}
 use Rattle.redpile_top.specs.declared.form.Form.{Form}
 use Rattle.redpile_top.specs.declared.form.Form.TheVariants.{World}
-use Rattle.redpile_top.specs.declared.report.Fault.{Fault}
-use Rattle.redpile_top.specs.declared.report.Fault.TheVariants.{Usage as UsageFault, Read, Write, Build as BuildFault, Script as ScriptFault, Memory}
-use Rattle.redpile_top.specs.declared.status.Status.TheVariants.{Done, BadBuild, BadScript}
-use Rattle.redpile_top.specs.File.{file, build_of}
-use Rattle.redpile_top.specs.Plan.{Plan}
-use Rattle.redpile_top.specs.Clauses.{Told, Ran, IsBuild, IsBadBuild, IsScript, IsBadScript, IsBadScriptFor, BuildClause, ScriptClause, CompleteClause, status_of}
+use Rattle.redpile_top.specs.declared.status.Status.{Status}
+use Rattle.redpile_top.specs.declared.status.Status.TheVariants.{Done, Usage, ReadFault, WriteFault, BadBuild, BadBlock, BadScript, NoMemory}
+use Rattle.redpile_top.specs.declared.status.Stop.{Stop}
+use Rattle.redpile_top.specs.declared.status.Stop.TheVariants.{Told as ToldStop, NotYet}
+use Rattle.redpile_top.specs.Playable.{IsPlayable, HasUnplayable}
+use Rattle.redpile_top.specs.Clauses.{Told, word, Ran, IsBuild, is_block, IsBadBuild, HasCauseButBlock, IsNotYet, IsBadBlock, IsScript, HasBadLine, IsBadScript, IsBadScriptFor, BuildCause, ScriptCause, Exactly, BuildClause, BlockClause, ScriptClause, CompleteClause, CauseOf, status_of, status_of_cause, status_of_script, status_of_graph}
 
--- A file is that of one build alone.
-pub file_unique : (bytes : List ℕ) (a b : Plan) → file bytes a → file bytes b → a ≡ b
-file_unique bytes a b one two =
-    let same : one.root ≡ two.root = one-root bytes one.root two.root one.spells two.spells in
-    let e : Some a ≡ Some b = sym one.means ∙ ap build_of same ∙ two.means in cc
+-- ---- what excludes what
+
+own_block : (r : Refusal) → is_block r ≡ true → is_own r ≡ true
+own_block (unknown_block name) h = refl
+own_block _ h = absurd (cc)
+
+named_block : (r : Refusal) → is_block r ≡ true → (name : List ℕ) × (r ≡ unknown_block name)
+named_block (unknown_block name) h = (name, refl)
+named_block _ h = absurd (cc)
+
+not_unplayable : (b : Plan) → IsPlayable b → HasUnplayable b → ⊥
+not_unplayable b h k = let clash = sym (h.each k.place) ∙ k.is in cc
+
+same_unplayable : (bytes : List ℕ) (build : Plan) → IsBuild build bytes → IsNotYet bytes → ⊥
+same_unplayable bytes build good bad =
+    not_unplayable build good.playable (subst HasUnplayable (same_build bytes bad.build build bad.is good.is) bad.unplayable)
 
 not_bad_build : (bytes : List ℕ) (build : Plan) → IsBuild build bytes → IsBadBuild bytes → ⊥
 not_bad_build bytes build good bad = elim bad [
   | inl long ↦ absurd (let within : length bytes ≤ 67108864 = good.within in omega arith)
-  | inr none ↦ none build good.is
+  | inr other ↦ elim other [
+    | inl cause ↦ not_both bytes build cause.refusal good.is cause.first
+    | inr later ↦ same_unplayable bytes build good later
+  ]
 ]
 
-not_bad_script : (bytes : List ℕ) (build : Plan) (acts : List Act) → IsScript build acts bytes → IsBadScript build bytes → ⊥
-not_bad_script bytes build acts good bad = elim bad [
+not_bad_block : (bytes : List ℕ) (build : Plan) → file bytes build → IsBadBlock bytes → ⊥
+not_bad_block bytes build is bad = not_both bytes build (unknown_block bad.name) is bad.first
+
+-- a block is the first cause, so no other is
+block_alone : (bytes : List ℕ) (r : Refusal) → length bytes ≤ 67108864 → is_block r ≡ true → IsFirstRefusal bytes r → IsBadBuild bytes → ⊥
+block_alone bytes r within block first bad = elim bad [
+  | inl long ↦ absurd (omega arith)
+  | inr other ↦ elim other [
+    | inl cause ↦ (let same : cause.refusal ≡ r = one_cause bytes r cause.refusal (own_block r block) first cause.first in
+        let clash : false ≡ true = sym cause.other ∙ ap is_block same ∙ block in absurd (cc))
+    | inr later ↦ not_both bytes later.build r later.is first
+  ]
+]
+
+-- another cause is the first, so no block is
+no_block : (bytes : List ℕ) (r : Refusal) → is_block r ≡ false → IsFirstRefusal bytes r → IsBadBlock bytes → ⊥
+no_block bytes r other first bad =
+    let same : r ≡ unknown_block bad.name = one_cause bytes (unknown_block bad.name) r refl bad.first first in
+    let clash : false ≡ true = sym other ∙ ap is_block same in
+    cc
+
+not_bad_script : (bytes : List ℕ) (build : Plan) (script : Meaning) → IsScript build script bytes → IsBadScript build bytes → ⊥
+not_bad_script bytes build script good bad = elim bad [
   | inl long ↦ absurd (let within : length bytes ≤ 1048576 = good.within in omega arith)
-  | inr none ↦ (let clash : Some acts ≡ None = sym good.is ∙ none in absurd (cc))
+  | inr line ↦ (let clash : ◌≡◌ {A = Result Meaning ScriptRefusal} (Ok script) (Err (Line line.line line.kind)) = sym good.is ∙ line.is in absurd (cc))
 ]
 
 -- for an accepted build and script no build makes the script bad
-not_bad_script_for : (build_bytes bytes : List ℕ) (build : Plan) (acts : List Act) → IsBuild build build_bytes → IsScript build acts bytes → IsBadScriptFor build_bytes bytes → ⊥
-not_bad_script_for build_bytes bytes build acts is_build is_script bad =
-    let same = file_unique build_bytes bad.0 build (bad.1).0.is is_build.is in
-    not_bad_script bytes build acts is_script (subst (λ (b : Plan). IsBadScript b bytes) same (bad.1).1)
+not_bad_script_for : (build_bytes bytes : List ℕ) (build : Plan) (script : Meaning) → IsBuild build build_bytes → IsScript build script bytes → IsBadScriptFor build_bytes bytes → ⊥
+not_bad_script_for build_bytes bytes build script is_build is_script bad =
+    let same = same_build build_bytes bad.0 build (bad.1).0.is is_build.is in
+    not_bad_script bytes build script is_script (subst (λ (b : Plan). IsBadScript b bytes) same (bad.1).1)
+
+-- a build that is refused has no script
+refused_script : (build_bytes bytes : List ℕ) (r : Refusal) → IsFirstRefusal build_bytes r → IsBadScriptFor build_bytes bytes → ⊥
+refused_script build_bytes bytes r first bad = not_both build_bytes bad.0 r (bad.1).0.is first
+
+-- ---- statuses
+
+-- it doesn't come, and needn't
+never : (P : Type 0) (answer status : Status) → (status ≡ answer → ⊥) → (P → ⊥) → Exactly P answer status
+never P answer status h k = record { only = λ e. absurd (h e); must = λ p. absurd (k p) }
+
+by_read : (P : Type 0) (answer : Status) → (ReadFault ≡ answer → ⊥) → Exactly P answer ReadFault
+by_read P answer h = record { only = λ e. absurd (h e); must = λ p. inr (inl refl) }
+
+by_memory : (P : Type 0) (answer : Status) → (NoMemory ≡ answer → ⊥) → Exactly P answer NoMemory
+by_memory P answer h = record { only = λ e. absurd (h e); must = λ p. inr (inr refl) }
+
+-- it comes
+here : (P : Type 0) (answer : Status) → P → Exactly P answer answer
+here P answer p = record { only = λ e. p; must = λ q. inl refl }
+
+module _ (b : Option (List ℕ)) where
+  build_by : (told : Option Refusal) → BuildCause b told → (bytes : List ℕ) → b ≡ Some bytes → Exactly (IsBadBuild bytes) BadBuild (status_of_cause told)
+  build_by None cause bytes is = by_memory (IsBadBuild bytes) BadBuild (λ e. cc)
+  build_by (Some r) cause bytes is = elim (cases_Bool (is_block r)) [
+    | inl h ↦ rw h (never (IsBadBuild bytes) BadBuild BadBlock (λ e. cc) (block_alone bytes r (cause bytes is).0 h (cause bytes is).1))
+    | inr h ↦ rw h (here (IsBadBuild bytes) BadBuild (inr (inl (record { refusal = r; other = h; first = (cause bytes is).1 }))))
+  ]
+
+  block_by : (told : Option Refusal) → BuildCause b told → (bytes : List ℕ) → b ≡ Some bytes → Exactly (IsBadBlock bytes) BadBlock (status_of_cause told)
+  block_by None cause bytes is = by_memory (IsBadBlock bytes) BadBlock (λ e. cc)
+  block_by (Some r) cause bytes is = elim (cases_Bool (is_block r)) [
+    | inl h ↦ (let named = named_block r h in
+        rw h (here (IsBadBlock bytes) BadBlock (record { within = (cause bytes is).0; name = named.0; first = subst (IsFirstRefusal bytes) named.1 (cause bytes is).1 })))
+    | inr h ↦ rw h (never (IsBadBlock bytes) BadBlock BadBuild (λ e. cc) (no_block bytes r h (cause bytes is).1))
+  ]
+
+  script_refused : (told : Option Refusal) → BuildCause b told → (build_bytes bytes : List ℕ) → b ≡ Some build_bytes → Exactly (IsBadScriptFor build_bytes bytes) BadScript (status_of_cause told)
+  script_refused None cause build_bytes bytes is = by_memory (IsBadScriptFor build_bytes bytes) BadScript (λ e. cc)
+  script_refused (Some r) cause build_bytes bytes is = elim (cases_Bool (is_block r)) [
+    | inl h ↦ rw h (never (IsBadScriptFor build_bytes bytes) BadScript BadBlock (λ e. cc) (refused_script build_bytes bytes r (cause build_bytes is).1))
+    | inr h ↦ rw h (never (IsBadScriptFor build_bytes bytes) BadScript BadBuild (λ e. cc) (refused_script build_bytes bytes r (cause build_bytes is).1))
+  ]
+
+  complete_refused : (told : Option Refusal) → BuildCause b told → (build : Plan) (bytes : List ℕ) → b ≡ Some bytes → IsBuild build bytes →
+      (status_of_cause told ≡ Done) ⊎ ((status_of_cause told ≡ ReadFault) ⊎ ((status_of_cause told ≡ WriteFault) ⊎ (status_of_cause told ≡ NoMemory)))
+  complete_refused None cause build bytes is good = inr (inr (inr refl))
+  complete_refused (Some r) cause build bytes is good = absurd (not_both bytes build r good.is (cause bytes is).1)
+
+module _ (b s : Option (List ℕ)) where
+  build_by_script : (refusal : ScriptRefusal) → ScriptCause b s refusal → (bytes : List ℕ) → b ≡ Some bytes → Exactly (IsBadBuild bytes) BadBuild (status_of_script refusal)
+  build_by_script (Line line kind) cause bytes is = never (IsBadBuild bytes) BadBuild BadScript (λ e. cc) (not_bad_build bytes cause.0 ((cause.1).0 bytes is))
+  build_by_script NoMemoryOfScript cause bytes is = by_memory (IsBadBuild bytes) BadBuild (λ e. cc)
+
+  block_by_script : (refusal : ScriptRefusal) → ScriptCause b s refusal → (bytes : List ℕ) → b ≡ Some bytes → Exactly (IsBadBlock bytes) BadBlock (status_of_script refusal)
+  block_by_script (Line line kind) cause bytes is = never (IsBadBlock bytes) BadBlock BadScript (λ e. cc) (not_bad_block bytes cause.0 ((cause.1).0 bytes is).is)
+  block_by_script NoMemoryOfScript cause bytes is = by_memory (IsBadBlock bytes) BadBlock (λ e. cc)
+
+  line_of : (line : ℕ) (kind : ScriptKind) → ScriptCause b s (Line line kind) → (build_bytes bytes : List ℕ) → b ≡ Some build_bytes → s ≡ Some bytes → IsBadScriptFor build_bytes bytes
+  line_of line kind cause build_bytes bytes is_b is_s =
+      (cause.0, ((cause.1).0 build_bytes is_b, inr (record { line = line; kind = kind; is = ((cause.1).1 bytes is_s).1 })))
+
+  script_by : (refusal : ScriptRefusal) → ScriptCause b s refusal → (build_bytes bytes : List ℕ) → b ≡ Some build_bytes → s ≡ Some bytes → Exactly (IsBadScriptFor build_bytes bytes) BadScript (status_of_script refusal)
+  script_by (Line line kind) cause build_bytes bytes is_b is_s = here (IsBadScriptFor build_bytes bytes) BadScript (line_of line kind cause build_bytes bytes is_b is_s)
+  script_by NoMemoryOfScript cause build_bytes bytes is_b is_s = by_memory (IsBadScriptFor build_bytes bytes) BadScript (λ e. cc)
+
+  complete_by : (refusal : ScriptRefusal) → ScriptCause b s refusal → (build : Plan) (script : Meaning) (build_bytes bytes : List ℕ) → b ≡ Some build_bytes → s ≡ Some bytes → IsBuild build build_bytes → IsScript build script bytes →
+      (status_of_script refusal ≡ Done) ⊎ ((status_of_script refusal ≡ ReadFault) ⊎ ((status_of_script refusal ≡ WriteFault) ⊎ (status_of_script refusal ≡ NoMemory)))
+  complete_by (Line line kind) cause build script build_bytes bytes is_b is_s good fit = absurd (not_bad_script_for build_bytes bytes build script good fit (line_of line kind cause build_bytes bytes is_b is_s))
+  complete_by NoMemoryOfScript cause build script build_bytes bytes is_b is_s good fit = inr (inr (inr refl))
+
+-- ---- the clauses, by the ending
 
 module _ (told : Told) (words : List (List ℕ)) (reading writing : Type 0) (before now : Option (List ℕ)) where
+  pub build_done : (form : Option Form) → Ran form told words reading writing before now (Ok tt) → BuildClause form told words Done
+  build_done None ran = λ e. cc
+  build_done (Some World) ran = λ bytes is. never (IsBadBuild bytes) BadBuild Done (λ e. cc) (not_bad_build bytes ran.done.build (ran.done.accepted.build_is bytes is))
+
+  pub block_done : (form : Option Form) → Ran form told words reading writing before now (Ok tt) → BlockClause form told words Done
+  block_done None ran = λ e. cc
+  block_done (Some World) ran = λ bytes is. never (IsBadBlock bytes) BadBlock Done (λ e. cc) (not_bad_block bytes ran.done.build (ran.done.accepted.build_is bytes is).is)
+
   pub script_done : (form : Option Form) → Ran form told words reading writing before now (Ok tt) → ScriptClause form told words Done
   script_done None ran = λ e. cc
-  script_done (Some World) ran = λ build_bytes is_b bytes is_s. record {
-    only = λ e. absurd (cc);
-    must = λ bad. absurd (not_bad_script_for build_bytes bytes ran.done.build ran.done.acts (ran.done.accepted.build_is build_bytes is_b) (ran.done.accepted.script_is bytes is_s) bad);
-  }
+  script_done (Some World) ran = λ build_bytes is_b bytes is_s. never (IsBadScriptFor build_bytes bytes) BadScript Done (λ e. cc)
+      (not_bad_script_for build_bytes bytes ran.done.build ran.done.script (ran.done.accepted.build_is build_bytes is_b) (ran.done.accepted.script_is bytes is_s))
 
-  pub build_failed : (fault : Fault) (form : Option Form) → Ran form told words reading writing before now (Err fault) → BuildClause form told words (status_of fault)
-  build_failed fault None ran = λ e. let same : fault ≡ UsageFault = cc in let clash : status_of UsageFault ≡ BadBuild = subst (λ (f : Fault). status_of f ≡ BadBuild) same e in cc
-  build_failed UsageFault (Some World) ran = λ bytes is. absurd ran.cause
-  build_failed Read (Some World) ran = λ bytes is. record { only = λ e. absurd (cc); must = λ bad. inr (inl refl) }
-  build_failed Write (Some World) ran = λ bytes is. record { only = λ e. absurd (cc); must = λ bad. absurd (not_bad_build bytes ran.front.build (ran.front.accepted.build_is bytes is) bad) }
-  build_failed BuildFault (Some World) ran = λ bytes is. record { only = λ e. ran.cause bytes is; must = λ bad. inl refl }
-  build_failed ScriptFault (Some World) ran = λ bytes is. record { only = λ e. absurd (cc); must = λ bad. absurd (not_bad_build bytes ran.cause.0 ((ran.cause.1).0 bytes is) bad) }
-  build_failed Memory (Some World) ran = λ bytes is. record { only = λ e. absurd (cc); must = λ bad. inr (inr refl) }
+  -- words without a form are Usage
+  usage_alone : (stop : Stop) (answer : Status) → (Usage ≡ answer → ⊥) → ◌≡◌ {A = Result (Unit {0}) Stop} (Err stop) (Err (ToldStop UsageFault)) → status_of stop ≡ answer → ⊥
+  usage_alone stop answer h e f =
+      let same : stop ≡ ToldStop UsageFault = cc in
+      h (subst (λ (x : Stop). status_of x ≡ answer) same f)
 
-  pub script_failed : (fault : Fault) (form : Option Form) → Ran form told words reading writing before now (Err fault) → ScriptClause form told words (status_of fault)
-  script_failed fault None ran = λ e. let same : fault ≡ UsageFault = cc in let clash : status_of UsageFault ≡ BadScript = subst (λ (f : Fault). status_of f ≡ BadScript) same e in cc
-  script_failed UsageFault (Some World) ran = λ build_bytes is_b bytes is_s. absurd ran.cause
-  script_failed Read (Some World) ran = λ build_bytes is_b bytes is_s. record { only = λ e. absurd (cc); must = λ bad. inr (inl refl) }
-  script_failed Write (Some World) ran = λ build_bytes is_b bytes is_s. record {
-    only = λ e. absurd (cc);
-    must = λ bad. absurd (not_bad_script_for build_bytes bytes ran.front.build ran.front.acts (ran.front.accepted.build_is build_bytes is_b) (ran.front.accepted.script_is bytes is_s) bad);
-  }
-  script_failed BuildFault (Some World) ran = λ build_bytes is_b bytes is_s. record { only = λ e. absurd (cc); must = λ bad. absurd (not_bad_build build_bytes bad.0 (bad.1).0 (ran.cause build_bytes is_b)) }
-  script_failed ScriptFault (Some World) ran = λ build_bytes is_b bytes is_s. record { only = λ e. (ran.cause.0, ((ran.cause.1).0 build_bytes is_b, (ran.cause.1).1 bytes is_s)); must = λ bad. inl refl }
-  script_failed Memory (Some World) ran = λ build_bytes is_b bytes is_s. record { only = λ e. absurd (cc); must = λ bad. inr (inr refl) }
+  pub build_failed : (stop : Stop) (form : Option Form) → Ran form told words reading writing before now (Err stop) → BuildClause form told words (status_of stop)
+  build_failed stop None ran = usage_alone stop BadBuild (λ e. cc) ran.0
+  build_failed (ToldStop UsageFault) (Some World) ran = λ bytes is. absurd ran.cause
+  build_failed (ToldStop Read) (Some World) ran = λ bytes is. by_read (IsBadBuild bytes) BadBuild (λ e. cc)
+  build_failed (ToldStop Write) (Some World) ran = λ bytes is. never (IsBadBuild bytes) BadBuild WriteFault (λ e. cc) (not_bad_build bytes ran.front.build (ran.front.accepted.build_is bytes is))
+  build_failed (ToldStop (BuildFault refusal)) (Some World) ran = build_by (told (word words 1)) (plain_refusal refusal) ran.cause
+  build_failed (ToldStop BuildTooLong) (Some World) ran = λ bytes is. here (IsBadBuild bytes) BadBuild (inl (ran.cause bytes is))
+  build_failed (ToldStop (ScriptFault refusal)) (Some World) ran = build_by_script (told (word words 1)) (told (word words 2)) refusal ran.cause
+  build_failed (ToldStop ScriptTooLong) (Some World) ran = λ bytes is. never (IsBadBuild bytes) BadBuild BadScript (λ e. cc) (not_bad_build bytes ran.cause.0 ((ran.cause.1).0 bytes is))
+  build_failed (ToldStop Memory) (Some World) ran = λ bytes is. by_memory (IsBadBuild bytes) BadBuild (λ e. cc)
+  build_failed (ToldStop _) (Some World) ran = λ bytes is. absurd ran.cause
+  build_failed NotYet (Some World) ran = λ bytes is. here (IsBadBuild bytes) BadBuild (inr (inr (ran.cause bytes is).1))
 
-  pub complete_failed : (fault : Fault) (form : Option Form) → Ran form told words reading writing before now (Err fault) → CompleteClause form told words (status_of fault)
-  complete_failed fault None ran = tt
-  complete_failed UsageFault (Some World) ran = λ build acts build_bytes bytes is_b is_s is_build is_script. absurd ran.cause
-  complete_failed Read (Some World) ran = λ build acts build_bytes bytes is_b is_s is_build is_script. inr (inl refl)
-  complete_failed Write (Some World) ran = λ build acts build_bytes bytes is_b is_s is_build is_script. inr (inr (inl refl))
-  complete_failed BuildFault (Some World) ran = λ build acts build_bytes bytes is_b is_s is_build is_script. absurd (not_bad_build build_bytes build is_build (ran.cause build_bytes is_b))
-  complete_failed ScriptFault (Some World) ran = λ build acts build_bytes bytes is_b is_s is_build is_script.
-      absurd (not_bad_script_for build_bytes bytes build acts is_build is_script (ran.cause.0, ((ran.cause.1).0 build_bytes is_b, (ran.cause.1).1 bytes is_s)))
-  complete_failed Memory (Some World) ran = λ build acts build_bytes bytes is_b is_s is_build is_script. inr (inr (inr refl))
+  pub block_failed : (stop : Stop) (form : Option Form) → Ran form told words reading writing before now (Err stop) → BlockClause form told words (status_of stop)
+  block_failed stop None ran = usage_alone stop BadBlock (λ e. cc) ran.0
+  block_failed (ToldStop UsageFault) (Some World) ran = λ bytes is. absurd ran.cause
+  block_failed (ToldStop Read) (Some World) ran = λ bytes is. by_read (IsBadBlock bytes) BadBlock (λ e. cc)
+  block_failed (ToldStop Write) (Some World) ran = λ bytes is. never (IsBadBlock bytes) BadBlock WriteFault (λ e. cc) (not_bad_block bytes ran.front.build (ran.front.accepted.build_is bytes is).is)
+  block_failed (ToldStop (BuildFault refusal)) (Some World) ran = block_by (told (word words 1)) (plain_refusal refusal) ran.cause
+  block_failed (ToldStop BuildTooLong) (Some World) ran = λ bytes is. never (IsBadBlock bytes) BadBlock BadBuild (λ e. cc) (λ bad. let within = bad.within in let long = ran.cause bytes is in omega arith)
+  block_failed (ToldStop (ScriptFault refusal)) (Some World) ran = block_by_script (told (word words 1)) (told (word words 2)) refusal ran.cause
+  block_failed (ToldStop ScriptTooLong) (Some World) ran = λ bytes is. never (IsBadBlock bytes) BadBlock BadScript (λ e. cc) (not_bad_block bytes ran.cause.0 ((ran.cause.1).0 bytes is).is)
+  block_failed (ToldStop Memory) (Some World) ran = λ bytes is. by_memory (IsBadBlock bytes) BadBlock (λ e. cc)
+  block_failed (ToldStop _) (Some World) ran = λ bytes is. absurd ran.cause
+  block_failed NotYet (Some World) ran = λ bytes is. never (IsBadBlock bytes) BadBlock BadBuild (λ e. cc) (not_bad_block bytes (ran.cause bytes is).1.build (ran.cause bytes is).1.is)
+
+  pub script_failed : (stop : Stop) (form : Option Form) → Ran form told words reading writing before now (Err stop) → ScriptClause form told words (status_of stop)
+  script_failed stop None ran = usage_alone stop BadScript (λ e. cc) ran.0
+  script_failed (ToldStop UsageFault) (Some World) ran = λ build_bytes is_b bytes is_s. absurd ran.cause
+  script_failed (ToldStop Read) (Some World) ran = λ build_bytes is_b bytes is_s. by_read (IsBadScriptFor build_bytes bytes) BadScript (λ e. cc)
+  script_failed (ToldStop Write) (Some World) ran = λ build_bytes is_b bytes is_s. never (IsBadScriptFor build_bytes bytes) BadScript WriteFault (λ e. cc)
+      (not_bad_script_for build_bytes bytes ran.front.build ran.front.script (ran.front.accepted.build_is build_bytes is_b) (ran.front.accepted.script_is bytes is_s))
+  script_failed (ToldStop (BuildFault refusal)) (Some World) ran = λ build_bytes is_b bytes is_s. script_refused (told (word words 1)) (plain_refusal refusal) ran.cause build_bytes bytes is_b
+  script_failed (ToldStop BuildTooLong) (Some World) ran = λ build_bytes is_b bytes is_s. never (IsBadScriptFor build_bytes bytes) BadScript BadBuild (λ e. cc)
+      (λ bad. let within = (bad.1).0.within in let long = ran.cause build_bytes is_b in omega arith)
+  script_failed (ToldStop (ScriptFault refusal)) (Some World) ran = λ build_bytes is_b bytes is_s. script_by (told (word words 1)) (told (word words 2)) refusal ran.cause build_bytes bytes is_b is_s
+  script_failed (ToldStop ScriptTooLong) (Some World) ran = λ build_bytes is_b bytes is_s. here (IsBadScriptFor build_bytes bytes) BadScript (ran.cause.0, ((ran.cause.1).0 build_bytes is_b, inl ((ran.cause.1).1 bytes is_s)))
+  script_failed (ToldStop Memory) (Some World) ran = λ build_bytes is_b bytes is_s. by_memory (IsBadScriptFor build_bytes bytes) BadScript (λ e. cc)
+  script_failed (ToldStop _) (Some World) ran = λ build_bytes is_b bytes is_s. absurd ran.cause
+  script_failed NotYet (Some World) ran = λ build_bytes is_b bytes is_s. never (IsBadScriptFor build_bytes bytes) BadScript BadBuild (λ e. cc) (λ bad. same_unplayable build_bytes bad.0 (bad.1).0 (ran.cause build_bytes is_b).1)
+
+  pub complete_failed : (stop : Stop) (form : Option Form) → Ran form told words reading writing before now (Err stop) → CompleteClause form told words (status_of stop)
+  complete_failed stop None ran = tt
+  complete_failed (ToldStop UsageFault) (Some World) ran = λ build script build_bytes bytes is_b is_s good fit. absurd ran.cause
+  complete_failed (ToldStop Read) (Some World) ran = λ build script build_bytes bytes is_b is_s good fit. inr (inl refl)
+  complete_failed (ToldStop Write) (Some World) ran = λ build script build_bytes bytes is_b is_s good fit. inr (inr (inl refl))
+  complete_failed (ToldStop (BuildFault refusal)) (Some World) ran = λ build script build_bytes bytes is_b is_s good fit. complete_refused (told (word words 1)) (plain_refusal refusal) ran.cause build build_bytes is_b good
+  complete_failed (ToldStop BuildTooLong) (Some World) ran = λ build script build_bytes bytes is_b is_s good fit. absurd (let within = good.within in let long = ran.cause build_bytes is_b in omega arith)
+  complete_failed (ToldStop (ScriptFault refusal)) (Some World) ran = λ build script build_bytes bytes is_b is_s good fit.
+      complete_by (told (word words 1)) (told (word words 2)) refusal ran.cause build script build_bytes bytes is_b is_s good fit
+  complete_failed (ToldStop ScriptTooLong) (Some World) ran = λ build script build_bytes bytes is_b is_s good fit. absurd (let within = fit.within in let long = (ran.cause.1).1 bytes is_s in omega arith)
+  complete_failed (ToldStop Memory) (Some World) ran = λ build script build_bytes bytes is_b is_s good fit. inr (inr (inr refl))
+  complete_failed (ToldStop _) (Some World) ran = λ build script build_bytes bytes is_b is_s good fit. absurd ran.cause
+  complete_failed NotYet (Some World) ran = λ build script build_bytes bytes is_b is_s good fit. absurd (same_unplayable build_bytes build good (ran.cause build_bytes is_b).1)
+
+  pub caused : (stop : Stop) (form : Option Form) → Ran form told words reading writing before now (Err stop) → CauseOf form told words reading writing stop
+  caused stop None ran = let same : ◌≡◌ {A = Result (Unit {0}) Stop} (Err stop) (Err (ToldStop UsageFault)) = ran.0 in cc
+  caused stop (Some World) ran = ran.cause
+
+cause_not_done : (told : Option Refusal) → status_of_cause told ≡ Done → ⊥
+cause_not_done None e = cc
+cause_not_done (Some r) e = elim (cases_Bool (is_block r)) [
+  | inl h ↦ (let clash : BadBlock ≡ Done = rw h at e in absurd (cc))
+  | inr h ↦ (let clash : BadBuild ≡ Done = rw h at e in absurd (cc))
+]
+
+script_not_done : (refusal : ScriptRefusal) → status_of_script refusal ≡ Done → ⊥
+script_not_done (Line line kind) e = cc
+script_not_done NoMemoryOfScript e = cc
+
+graph_not_done : (refusal : GraphRefusal) → status_of_graph refusal ≡ Done → ⊥
+graph_not_done NoMemoryOfGraph e = cc
+graph_not_done _ e = cc
+
+pub never_done : (stop : Stop) → status_of stop ≡ Done → ⊥
+never_done (ToldStop (BuildFault refusal)) e = cause_not_done (plain_refusal refusal) e
+never_done (ToldStop (ScriptFault refusal)) e = script_not_done refusal e
+never_done (ToldStop (Graph refusal)) e = graph_not_done refusal e
+never_done (ToldStop _) e = cc
+never_done NotYet e = cc
+
+-- the line was written, or a prefix of it
+pub line_written : {T E : Type 0} (r : Result T E) (old new : ℕ) (before now : Option (List ℕ)) (line : List ℕ) → OnOk r (Wrote before now line) → OnErr r (WrotePrefix before now line) → HasCause old new r →
+    Wrote before now line ⊎ (Rose old new × WrotePrefix before now line)
+line_written (Ok x) old new before now line all front cause = inl all
+line_written (Err e) old new before now line all front cause = inr (cause.failed, front)

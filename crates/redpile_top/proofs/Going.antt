@@ -9,18 +9,20 @@ use Rattle.circuit.specs.declared.Step.TheVariants.{Click as ClickAt, Tick as On
 use Rattle.circuit.specs.Circuit.{Circuit, State, start, view}
 use Rattle.circuit.specs.Shows.{Run, Ended, Clicked, Ticked, clicks_in, fires_in, steps_of}
 use Rattle.circuit.specs.Taken.{EachTaken}
-use Rattle.circuit.specs.Component.{takes}
-use Rattle.circuit.specs.declared.Component.TheVariants.{Lever as LeverPart}
 use Rattle.circuit.proofs.Runs.{run_exists}
 use Rattle.rp_io.specs.Causes.{appended, WrotePrefix, PartWay}
 use Rattle.rp_io.proofs.Written.{part_none, part_more, part_all, part_stopped}
-use Rattle.redpile_top.specs.Plan.{Plan, outputs}
-use Rattle.redpile_top.specs.Texts.{Moment, moments, moment_after, view_line, view_lines, header, world_trailer, world_text, all_moments}
-use Rattle.redpile_top.specs.declared.report.Cause.TheVariants.{Start}
-use Rattle.redpile_top.specs.declared.report.Cause.{Cause}
-use Rattle.redpile_top.specs.Scripts.{AllUsable, tick_count}
+use Rattle.build.specs.Plan.{Plan}
+use Rattle.redpile_top.specs.Unmarked.{outputs}
+use Rattle.redpile_top.specs.Moments.{Moment, moments, moment_after, view_lines, world_text, all_moments}
+use Rattle.report.specs.ViewLine.{view_line}
+use Rattle.report.specs.Header.{header}
+use Rattle.report.specs.Trailers.{world_trailer}
+use Rattle.report.specs.declared.Cause.TheVariants.{Start}
+use Rattle.report.specs.declared.Cause.{Cause}
+use Rattle.redpile_top.specs.Moments.{tick_count}
 use Rattle.redpile_top.specs.World.{Running, world_circuit, state_in, shows}
-use Rattle.redpile_top.proofs.ScriptLaws.{AllUsable-script, role_at-usable}
+use Rattle.redpile_top.proofs.ScriptLaws.{clicks_taken}
 use Rattle.std.proofs.Common.{Result, Ok, Err, OnOk, OnErr}
 use Rattle.redpile_top.specs.Played.{StepTo, TakenStep, IsScriptFor, header_of, WroteRun, WroteRunPrefix}
 use Rattle.redpile_top.proofs.Listed.{world_listed}
@@ -196,14 +198,8 @@ module _ (b : Plan) (acts : List Act) (before : Option (List ℕ)) where
   stopped_trailer mid now time s left going none wrote = stopped_last mid now time s (subst (Going mid time s) none going) wrote
 
 -- the clicks of a script are taken in the world of its build
-pub usable_taken : (b : Plan) (steps : List Step) → AllUsable b steps → EachTaken (world_circuit b) steps
-usable_taken b [] usable = tt
-usable_taken b (ClickAt pos click ∷ steps) usable =
-    (record { key = pos; component = LeverPart; there = role_at-usable b pos click usable.0; place = refl; taken = ap (takes LeverPart) (usable.0).used }, usable_taken b steps usable.1)
-usable_taken b (OneTick ∷ steps) usable = usable_taken b steps usable
-
 pub script_taken : (b : Plan) (acts : List Act) → IsScriptFor b acts → EachTaken (world_circuit b) (steps_of acts)
-script_taken b acts script = usable_taken b (steps_of acts) (AllUsable-script script.text b acts script.is)
+script_taken b acts script = clicks_taken b acts script.playable script.clicks
 
 -- an error is met by what holds anyway
 pub on_err_holds : {T E : Type 0} (r : Result T E) (P : Type 0) → P → OnErr r P

@@ -10,11 +10,11 @@ use Rattle.circuit.specs.declared.Cell.{Cell}
 use Rattle.circuit.specs.Circuit.{Circuit, outs, put, attended_at, attend}
 use Rattle.circuit.specs.Keys.{IsTest}
 use Rattle.circuit.proofs.Keys.{is_key}
-use Rattle.redpile_top.specs.declared.block_table.Block.TheVariants.{Air}
-use Rattle.redpile_top.specs.Plan.{Plan, volume, in_box, entry, cell_of, place_of}
-use Rattle.redpile_top.specs.Place.{same_int, same_place}
+use Rattle.block_table.specs.declared.Block.TheVariants.{Air}
+use Rattle.build.specs.Plan.{Plan, volume, in_box, entry, cell_of, place_of}
+use Rattle.build.specs.Place.{same_int, same_place}
 use Rattle.redpile_top.specs.World.{role_at, world_circuit, nothing, state_of, stored}
-use Rattle.redpile_top.specs.Places.{IsInside, inside, cell_below, place-cell, entry-inside, entry-outside}
+use Rattle.build.specs.Places.{IsInside, inside, cell_below, place-cell, entry-inside, entry-outside}
 
 int_itself : (a : ℤ) → same_int a a ≡ true
 int_itself (pos a) = eq-eqb a a refl

@@ -5,8 +5,8 @@ use Rattle.std.proofs.lemmas.Bool.{cases_eq}
 use Rattle.circuit.specs.declared.Pos.{Pos}
 use Rattle.circuit.specs.Circuit.{Each, EachBefore, Among}
 use Rattle.circuit.specs.Keys.{IsListed}
-use Rattle.redpile_top.specs.Plan.{Plan, volume, places, place_of, cell_of}
-use Rattle.redpile_top.specs.Places.{place-cell, cell_below}
+use Rattle.build.specs.Plan.{Plan, volume, places, place_of, cell_of}
+use Rattle.build.specs.Places.{place-cell, cell_below}
 use Rattle.redpile_top.specs.World.{world_circuit}
 use Rattle.redpile_top.proofs.Due.{cell-place, place_there}
 

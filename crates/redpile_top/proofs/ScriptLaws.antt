@@ -1,27 +1,25 @@
 -- What holds of the steps of a script.
-use Rattle.std.proofs.Common.{◌≡◌, ℕ, zero, suc, ◌+◌, true, List, [], ◌∷◌, Option, Some, None, refl, subst, inl, inr, arith}
-use Rattle.std.specs.Prelude.{nat_eq, nat_le, codes}
-use Rattle.std.specs.List.{starts_with}
-use Rattle.std.specs.Option.{option_map, option_and_then}
-use Rattle.std.specs.Str.{bytes_eq}
-use Rattle.std.specs.Str.Lines.{lines}
-use Rattle.std.proofs.lemmas.Bool.{cases_Bool}
+use Rattle.std.proofs.Common.{◌≡◌, ℕ, zero, suc, ◌+◌, Bool, true, false, List, [], ◌∷◌, Some, refl, ap, arith}
 use Rattle.circuit.specs.declared.Act.{Act}
 use Rattle.circuit.specs.declared.Act.TheVariants.{Click as ClickAct, Ticks as TicksAct}
 use Rattle.circuit.specs.declared.Click.{Click}
-use Rattle.circuit.specs.declared.Click.TheVariants.{Use}
+use Rattle.circuit.specs.declared.Click.TheVariants.{Use, Press, Leave, Weigh}
 use Rattle.circuit.specs.declared.Component.TheVariants.{Lever as LeverPart}
 use Rattle.circuit.specs.declared.Pos.{Pos}
 use Rattle.circuit.specs.declared.Step.{Step}
+use Rattle.circuit.specs.Component.{takes}
 use Rattle.circuit.specs.Shows.{ticks, steps_of}
-use Rattle.rp_text.specs.Numbers.{u32_of}
-use Rattle.rp_text.specs.Words.{words}
-use Rattle.redpile_top.specs.declared.block_table.Block.{Block}
-use Rattle.redpile_top.specs.declared.block_table.Block.TheVariants.{Air, Inert, Torch, WallTorch, Lever, Lamp}
-use Rattle.redpile_top.specs.Plan.{Plan, block_at, in_box}
-use Rattle.redpile_top.specs.Places.{entry-outside}
-use Rattle.redpile_top.specs.World.{role_of, role_at}
-use Rattle.redpile_top.specs.Scripts.{is_lever, place_named, use_at, ticks_named, act_said, line_says, said_first, acts_said, ticks_in, within_ticks, script_of, tick_count, IsUsable, AllUsable}
+use Rattle.circuit.specs.Taken.{EachTaken, Takes}
+use Rattle.block_table.specs.declared.Block.{Block}
+use Rattle.block_table.specs.declared.Block.TheVariants.{Lever, Button, Plate, Weighted}
+use Rattle.build.specs.Plan.{Plan, block_at}
+use Rattle.std.proofs.lemmas.List.Sums.{sum_by-cons}
+use Rattle.script.specs.Acts.{ticks_of, ticks_in}
+use Rattle.script.specs.Clickable.{block_takes, takes_click}
+use Rattle.script.specs.Fit.{EachClickTaken}
+use Rattle.redpile_top.specs.Moments.{tick_count}
+use Rattle.redpile_top.specs.Playable.{is_playable, IsPlayable}
+use Rattle.redpile_top.specs.World.{role_of, role_at, world_circuit}
 
 tick_count-ticks : (n : ℕ) (steps : List Step) → tick_count (ticks n steps) ≡ n + tick_count steps
 tick_count-ticks zero steps = omega arith
@@ -30,114 +28,34 @@ tick_count-ticks (suc n) steps = omega (arith, tick_count-ticks n steps)
 -- a script has as many tick steps as its acts have ticks
 pub tick_count-steps_of : (acts : List Act) → tick_count (steps_of acts) ≡ ticks_in acts
 tick_count-steps_of [] = refl
-tick_count-steps_of (ClickAct place click ∷ acts) = omega (arith, tick_count-steps_of acts)
-tick_count-steps_of (TicksAct n ∷ acts) = omega (arith, tick_count-ticks n (steps_of acts), tick_count-steps_of acts)
+tick_count-steps_of (ClickAct place click ∷ acts) =
+    omega (arith, tick_count-steps_of acts, sum_by-cons ticks_of (ClickAct place click) acts)
+tick_count-steps_of (TicksAct n ∷ acts) =
+    omega (arith, tick_count-ticks n (steps_of acts), tick_count-steps_of acts, sum_by-cons ticks_of (TicksAct n) acts)
 
-abbrev UsableAct : Plan → Act → Type 0
-UsableAct build (ClickAct place click) = IsUsable build place click
-UsableAct build (TicksAct n) = Unit {0}
+-- of the blocks that are played only a lever takes a click, and only to be used
+played_lever : (block : Block) (click : Click) → is_playable block ≡ true → block_takes block click ≡ true → (role_of block ≡ Some LeverPart) × (takes LeverPart click ≡ true)
+played_lever (Lever face facing powered) Use h k = (refl, refl)
+played_lever (Lever face facing powered) Press h k = absurd (cc)
+played_lever (Lever face facing powered) Leave h k = absurd (cc)
+played_lever (Lever face facing powered) (Weigh weight) h k = absurd (cc)
+played_lever (Button name face facing powered) click h k = absurd (cc)
+played_lever (Plate name powered) click h k = absurd (cc)
+played_lever (Weighted name power) click h k = absurd (cc)
+played_lever _ click h k = absurd (cc)
 
-abbrev UsableActs : Plan → List Act → Type 0
-UsableActs build [] = Unit {0}
-UsableActs build (act ∷ acts) = UsableAct build act × UsableActs build acts
-
-AllUsable-ticks : (build : Plan) (n : ℕ) (steps : List Step) → AllUsable build steps → AllUsable build (ticks n steps)
-AllUsable-ticks build zero steps h = h
-AllUsable-ticks build (suc n) steps h = AllUsable-ticks build n steps h
-
-AllUsable-steps : (build : Plan) (acts : List Act) → UsableActs build acts → AllUsable build (steps_of acts)
-AllUsable-steps build [] h = tt
-AllUsable-steps build (ClickAct place click ∷ acts) h = (h.0, AllUsable-steps build acts h.1)
-AllUsable-steps build (TicksAct n ∷ acts) h = AllUsable-ticks build n (steps_of acts) (AllUsable-steps build acts h.1)
-
-UsableAct-same : (build : Plan) (one act : Act) → one ≡ act → UsableAct build one → UsableAct build act
-UsableAct-same build one act e h = subst (λ (a : Act). UsableAct build a) e h
-
-UsableAct-use : (build : Plan) (place : Pos) (act : Act) → use_at build place ≡ Some act → UsableAct build act
-unfolding use_at
-UsableAct-use build place act e = elim (cases_Bool (is_lever (block_at build place))) [
-  | inl h ↦ let f : Some (ClickAct place Use) ≡ Some act = rw h at e in UsableAct-same build (ClickAct place Use) act (cc) (record { lever = h; used = refl })
-  | inr h ↦ let f : ◌≡◌ {A = Option Act} None (Some act) = rw h at e in absurd (cc)
-]
-
-UsableAct-place : (build : Plan) (place : Option Pos) (act : Act) → option_and_then (use_at build) place ≡ Some act → UsableAct build act
-UsableAct-place build None act e = absurd (cc)
-UsableAct-place build (Some place) act e = UsableAct-use build place act e
-
-UsableAct-number : (build : Plan) (n : Option ℕ) (act : Act) → option_map TicksAct n ≡ Some act → UsableAct build act
-UsableAct-number build None act e = absurd (cc)
-UsableAct-number build (Some n) act e = UsableAct-same build (TicksAct n) act (cc) tt
-
-UsableAct-ticks : (build : Plan) (others : List (List ℕ)) (act : Act) → ticks_named others ≡ Some act → UsableAct build act
-UsableAct-ticks build [] act e = absurd (cc)
-UsableAct-ticks build (n ∷ []) act e = UsableAct-number build (u32_of n) act e
-UsableAct-ticks build (n ∷ m ∷ others) act e = absurd (cc)
-
-UsableAct-said : (build : Plan) (first : List ℕ) (others : List (List ℕ)) (act : Act) → act_said build first others ≡ Some act → UsableAct build act
-unfolding act_said
-UsableAct-said build first others act e = elim (cases_Bool (bytes_eq first (codes "use"))) [
-  | inl h ↦ UsableAct-place build (place_named others) act (rw h at e)
-  | inr h ↦ elim (cases_Bool (bytes_eq first (codes "tick"))) [
-    | inl k ↦ UsableAct-ticks build others act (rw (h, k) at e)
-    | inr k ↦ let f : ◌≡◌ {A = Option Act} None (Some act) = rw (h, k) at e in absurd (cc)
-  ]
-]
-
-said-some : (said : Option Act) (act : Act) → option_map (λ (a : Act). Some a) said ≡ Some (Some act) → said ≡ Some act
-said-some None act e = absurd (cc)
-said-some (Some one) act e = cc
-
-UsableAct-line : (build : Plan) (line : List (List ℕ)) (act : Act) → line_says build line ≡ Some (Some act) → UsableAct build act
-unfolding line_says
-UsableAct-line build [] act e = absurd (cc)
-UsableAct-line build (first ∷ others) act e = elim (cases_Bool (starts_with nat_eq first (codes "#"))) [
-  | inl h ↦ let f : ◌≡◌ {A = Option (Option Act)} (Some None) (Some (Some act)) = rw h at e in absurd (cc)
-  | inr h ↦ UsableAct-said build first others act (said-some (act_said build first others) act (rw h at e))
-]
-
-UsableActs-first : (build : Plan) (said : Option (Option Act)) (later : Option (List Act)) → ((act : Act) → said ≡ Some (Some act) → UsableAct build act) →
-    ((acts : List Act) → later ≡ Some acts → UsableActs build acts) → (acts : List Act) → said_first said later ≡ Some acts → UsableActs build acts
-UsableActs-first build None later h k acts e = absurd (cc)
-UsableActs-first build (Some None) later h k acts e = k acts e
-UsableActs-first build (Some (Some act)) None h k acts e = absurd (cc)
-UsableActs-first build (Some (Some act)) (Some later) h k acts e =
-    let f : act ∷ later ≡ acts = cc in subst (λ (xs : List Act). UsableActs build xs) f (h act refl, k later refl)
-
-UsableActs-lines : (build : Plan) (ls : List (List ℕ)) (acts : List Act) → acts_said build ls ≡ Some acts → UsableActs build acts
-unfolding acts_said
-UsableActs-lines build [] acts e = let f : [] ≡ acts = cc in subst (λ (xs : List Act). UsableActs build xs) f tt
-UsableActs-lines build (line ∷ others) acts e =
-    UsableActs-first build (line_says build (words line)) (acts_said build others) (UsableAct-line build (words line)) (UsableActs-lines build others) acts e
-
-within-same : (said : Option (List Act)) (acts : List Act) → option_and_then within_ticks said ≡ Some acts → said ≡ Some acts
-unfolding within_ticks
-within-same None acts e = absurd (cc)
-within-same (Some one) acts e = elim (cases_Bool (nat_le (ticks_in one) 100000)) [
-  | inl h ↦ rw h at e
-  | inr h ↦ let f : ◌≡◌ {A = Option (List Act)} None (Some acts) = rw h at e in absurd (cc)
-]
-
--- a lever stands at the place of each click of a script
-pub AllUsable-script : (text : List ℕ) (build : Plan) (acts : List Act) → script_of text build ≡ Some acts → AllUsable build (steps_of acts)
-unfolding script_of
-AllUsable-script text build acts e = AllUsable-steps build acts (UsableActs-lines build (lines text) acts (within-same (acts_said build (lines text)) acts e))
-
-role_of-lever : (block : Block) → is_lever block ≡ true → role_of block ≡ Some LeverPart
-role_of-lever (Lever face facing powered) h = refl
-role_of-lever Air h = absurd (cc)
-role_of-lever (Inert name) h = absurd (cc)
-role_of-lever (Torch lit) h = absurd (cc)
-role_of-lever (WallTorch facing lit) h = absurd (cc)
-role_of-lever (Lamp lit) h = absurd (cc)
-
--- what can be used is a lever of the world
-pub role_at-usable : (build : Plan) (place : Pos) (click : Click) → IsUsable build place click → role_at build place ≡ Some LeverPart
+takes_there : (b : Plan) (p : Pos) (click : Click) → IsPlayable b → takes_click b p click ≡ true → Takes (world_circuit b) p click
 unfolding role_at
-role_at-usable build place click h = role_of-lever (block_at build place) h.lever
+takes_there b p click h k =
+    let lever = played_lever (block_at b p) click (h.each p) k in
+    record { key = p; component = LeverPart; there = lever.0; place = refl; taken = lever.1 }
 
--- and stands in the box
-pub in_box-usable : (build : Plan) (place : Pos) (click : Click) → IsUsable build place click → in_box build place ≡ true
-in_box-usable build place click h = elim (cases_Bool (in_box build place)) [
-  | inl k ↦ k
-  | inr k ↦ let f : is_lever Air ≡ true = subst (λ (block : Block). is_lever block ≡ true) (entry-outside build build.blocks Air place k) h.lever in absurd (cc)
-]
+taken_ticks : (b : Plan) (n : ℕ) (steps : List Step) → EachTaken (world_circuit b) steps → EachTaken (world_circuit b) (ticks n steps)
+taken_ticks b zero steps h = h
+taken_ticks b (suc n) steps h = taken_ticks b n steps h
+
+-- the clicks of a script are taken in the world of its build
+pub clicks_taken : (b : Plan) (acts : List Act) → IsPlayable b → EachClickTaken (takes_click b) acts → EachTaken (world_circuit b) (steps_of acts)
+clicks_taken b [] h k = tt
+clicks_taken b (ClickAct place click ∷ acts) h k = (takes_there b place click h k.0, clicks_taken b acts h k.1)
+clicks_taken b (TicksAct n ∷ acts) h k = taken_ticks b n (steps_of acts) (clicks_taken b acts h k)

@@ -10,20 +10,22 @@ use Rattle.circuit.specs.Component.{top, clicked}
 use Rattle.circuit.specs.declared.Component.TheVariants.{Wire, Comparator, Weighted}
 use Rattle.circuit.specs.declared.Readings.{Readings}
 use Rattle.circuit.specs.Circuit.{put, attend, fired_in, with_value, seen_at, seen, outs}
-use Rattle.redpile_top.specs.declared.build.OutPlace.{OutPlace}
+use Rattle.build.specs.declared.OutPlace.{OutPlace}
+use Rattle.build.specs.declared.Pending.{Pending}
 use Rattle.std.specs.Prelude.{All}
 use Rattle.std.proofs.lemmas.List.Elements.{All-map}
 use Rattle.circuit.specs.Bounds.{BoundedAt, Bounded, IsBounded}
 use Rattle.circuit.proofs.Bounded.{bounded_is_invariant}
 use Rattle.circuit.proofs.Matches.{IsInvariant}
-use Rattle.redpile_top.specs.declared.block_table.Side.{Side}
-use Rattle.redpile_top.specs.declared.block_table.Block.{Block}
-use Rattle.redpile_top.specs.declared.block_table.Block.TheVariants.{Torch, WallTorch, Lever, Lamp}
-use Rattle.redpile_top.specs.declared.block_table.Side.TheVariants.{Down}
-use Rattle.redpile_top.specs.Place.{beside, opposite, sides}
-use Rattle.redpile_top.specs.Plan.{Plan, block_at, solid_at}
+use Rattle.block_table.specs.declared.Side.{Side}
+use Rattle.block_table.specs.declared.Block.{Block}
+use Rattle.block_table.specs.declared.Block.TheVariants.{Torch, WallTorch, Lever, Lamp}
+use Rattle.block_table.specs.declared.Side.TheVariants.{Down}
+use Rattle.build.specs.Place.{beside, sides}
+use Rattle.block_table.specs.Facts.{opposite}
+use Rattle.build.specs.Plan.{Plan, block_at, solid_at}
 use Rattle.redpile_top.specs.Power.{full, only, greatest, weak_of, weak, strong_of, strong, charge, read, read_around}
-use Rattle.redpile_top.specs.World.{readings_of, readings_at, role_of, role_at, stored, stored_value, on_if, world_circuit, state_of, IsWithin, shown_of}
+use Rattle.redpile_top.specs.World.{readings_of, readings_at, role_of, role_at, stored, stored_of, cell_with, waiting_at, stored_value, on_if, world_circuit, state_of, IsWithin, shown_of}
 use Rattle.redpile_top.proofs.Held.{test_of_places}
 
 full-le : (n : ℕ) → full n ≤ 15
@@ -83,9 +85,17 @@ stored_value-le (Lever face facing powered) cell e = omega (arith, on-le powered
 stored_value-le (Lamp lit) cell e = omega (arith, on-le lit)
 stored_value-le _ cell e = tt
 
+with-value : (value : ℕ) (o : Option Pending) → (cell_with value o).value ≡ value
+with-value value None = refl
+with-value value (Some tick) = refl
+
+stored_of-le : (k : Block) (role : Option Component) (o : Option Pending) → role ≡ role_of k → BoundedAt role (stored_of role (stored_value k) o)
+stored_of-le k None o e = tt
+stored_of-le k (Some component) o e = subst (λ (r : Option Component). BoundedAt r (cell_with (stored_value k) o)) (sym e) (stored_value-le k (cell_with (stored_value k) o) (with-value (stored_value k) o))
+
 stored-le : (b : Plan) (p : Pos) → BoundedAt (role_at b p) (stored b p)
 unfolding role_at stored
-stored-le b p = stored_value-le (block_at b p) (stored b p) refl
+stored-le b p = stored_of-le (block_at b p) (role_of (block_at b p)) (waiting_at b.pending p) refl
 
 pub world_bounded : (b : Plan) → IsBounded (world_circuit b)
 world_bounded b = record {

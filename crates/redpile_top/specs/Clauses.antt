@@ -1,19 +1,28 @@
 -- The clauses of the top call: what each answer says of the words, the files and the sinks.
-use Rattle.std.specs.Prelude.{◌≡◌, ◌⊎◌, ℕ, ◌<◌, ◌≤◌, List, [], ◌∷◌, length, get_or, Option, Some, None, Result, Ok, Err, OnOk, IfErr, codes, if◌then◌else◌}
+use Rattle.std.specs.Prelude.{◌≡◌, ◌⊎◌, ℕ, ◌<◌, ◌≤◌, Bool, true, false, if◌then◌else◌, List, [], ◌∷◌, length, get_or, Option, Some, None, Result, Ok, Err, OnOk, IfErr, codes}
 use Rattle.std.specs.Str.{bytes_eq}
-use Rattle.circuit.specs.declared.Act.{Act}
 use Rattle.rp_io.specs.Causes.{Wrote, WrotePrefix}
+use Rattle.build.specs.Plan.{Plan}
+use Rattle.schematic.specs.File.{Refusal, unknown_block, file, plain_refusal, IsFirstRefusal}
+use Rattle.script.specs.declared.ScriptKind.{ScriptKind}
+use Rattle.script.specs.declared.ScriptRefusal.{ScriptRefusal}
+use Rattle.script.specs.declared.ScriptRefusal.TheVariants.{Line, NoMemory as NoMemoryOfScript}
+use Rattle.script.specs.Acts.{Meaning}
+use Rattle.script.specs.Clickable.{takes_click, is_wire_at}
+use Rattle.script.specs.Scripts.{script_of}
+use Rattle.report.specs.declared.Fault.{Fault}
+use Rattle.report.specs.declared.Fault.TheVariants.{Usage as UsageFault, Read, Write, Build as BuildFault, BuildTooLong, Script as ScriptFault, ScriptTooLong, Memory, Order, OrderTooLong, Graph, GraphTooLong}
+use Rattle.report.specs.declared.GraphRefusal.{GraphRefusal}
+use Rattle.report.specs.declared.GraphRefusal.TheVariants.{NoMemory as NoMemoryOfGraph}
+use Rattle.report.specs.FaultLine.{fault_line}
 use Rattle.redpile_top.specs.declared.form.Form.{Form}
 use Rattle.redpile_top.specs.declared.form.Form.TheVariants.{World}
-use Rattle.redpile_top.specs.declared.report.Fault.{Fault}
-use Rattle.redpile_top.specs.declared.report.Fault.TheVariants.{Usage as UsageFault, Read, Write, Build as BuildFault, Script as ScriptFault, Memory}
 use Rattle.redpile_top.specs.declared.status.Status.{Status}
-use Rattle.redpile_top.specs.declared.status.Status.TheVariants.{Done, Usage, ReadFault, WriteFault, BadBuild, BadScript, NoMemory}
-use Rattle.redpile_top.specs.File.{file}
-use Rattle.redpile_top.specs.Plan.{Plan}
+use Rattle.redpile_top.specs.declared.status.Status.TheVariants.{Done, Usage, ReadFault, WriteFault, BadBuild, BadBlock, BadScript, BadOrder, NoMemory, BadGraph}
+use Rattle.redpile_top.specs.declared.status.Stop.{Stop}
+use Rattle.redpile_top.specs.declared.status.Stop.TheVariants.{Told as ToldStop, NotYet}
+use Rattle.redpile_top.specs.Playable.{IsPlayable, HasUnplayable}
 use Rattle.redpile_top.specs.Played.{WroteRun, WroteRunPrefix}
-use Rattle.redpile_top.specs.Scripts.{script_of}
-use Rattle.redpile_top.specs.Texts.{fault_line}
 
 -- ---- words
 
@@ -41,89 +50,175 @@ Told = List ℕ → Option (List ℕ)
 abbrev pub OnTold : Option (List ℕ) → (List ℕ → Type 0) → Type 0
 OnTold told P = (bytes : List ℕ) → told ≡ Some bytes → P bytes
 
--- The bytes are an accepted build's.
+-- The bytes are an accepted build's, whose blocks are all played.
 pub record IsBuild (build : Plan) (bytes : List ℕ) : Type 0 where
   pub within : length bytes ≤ 67108864
   pub is : file bytes build
+  pub playable : IsPlayable build
 
--- They are no build's, or too many.
+-- the cause is a block that isn't known
+abbrev pub is_block : Refusal → Bool
+is_block (unknown_block name) = true
+is_block _ = false
+
+-- The bytes have a first cause, which isn't a block.
+pub record HasCauseButBlock (bytes : List ℕ) : Type 0 where
+  pub refusal : Refusal
+  pub other : is_block refusal ≡ false
+  pub first : IsFirstRefusal bytes refusal
+
+-- The bytes are those of a build with a block that isn't played yet.
+pub record IsNotYet (bytes : List ℕ) : Type 0 where
+  pub build : Plan
+  pub is : file bytes build
+  pub unplayable : HasUnplayable build
+
+-- They are too many, or no build's for another cause than a block, or some block isn't played yet.
 abbrev pub IsBadBuild : List ℕ → Type 0
-IsBadBuild bytes = (67108864 < length bytes) ⊎ ((build : Plan) → file bytes build → ⊥)
+IsBadBuild bytes = (67108864 < length bytes) ⊎ (HasCauseButBlock bytes ⊎ IsNotYet bytes)
+
+-- They are no build's, and the first cause is a block that isn't known.
+pub record IsBadBlock (bytes : List ℕ) : Type 0 where
+  pub within : length bytes ≤ 67108864
+  pub name : List ℕ
+  pub first : IsFirstRefusal bytes (unknown_block name)
 
 -- The bytes are an accepted script's for the build.
-pub record IsScript (build : Plan) (acts : List Act) (bytes : List ℕ) : Type 0 where
+pub record IsScript (build : Plan) (script : Meaning) (bytes : List ℕ) : Type 0 where
   pub within : length bytes ≤ 1048576
-  pub is : script_of bytes build ≡ Some acts
+  pub is : script_of (takes_click build) (is_wire_at build) bytes ≡ Ok script
+
+-- They have a first bad line.
+pub record HasBadLine (build : Plan) (bytes : List ℕ) : Type 0 where
+  pub line : ℕ
+  pub kind : ScriptKind
+  pub is : script_of (takes_click build) (is_wire_at build) bytes ≡ Err (Line line kind)
 
 -- They are no script's for the build, or too many.
 abbrev pub IsBadScript : Plan → List ℕ → Type 0
-IsBadScript build bytes = (1048576 < length bytes) ⊎ (script_of bytes build ≡ None)
+IsBadScript build bytes = (1048576 < length bytes) ⊎ HasBadLine build bytes
 
 -- ---- what a command did, before its status and its line are made of it
 
 abbrev pub Ending : Type 0
-Ending = Result (Unit {0}) Fault
+Ending = Result (Unit {0}) Stop
 
 -- the build and the script are those of the two files, where they are told
-pub record Accepted (b s : Option (List ℕ)) (build : Plan) (acts : List Act) : Type 0 where
+pub record Accepted (b s : Option (List ℕ)) (build : Plan) (script : Meaning) : Type 0 where
   pub build_is : OnTold b (IsBuild build)
-  pub script_is : OnTold s (IsScript build acts)
+  pub script_is : OnTold s (IsScript build script)
+
+-- The build's file has this first cause. Want of memory has none.
+abbrev pub BuildCause : Option (List ℕ) → Option Refusal → Type 0
+BuildCause b None = Unit {0}
+BuildCause b (Some refusal) = OnTold b (λ bytes. (length bytes ≤ 67108864) × IsFirstRefusal bytes refusal)
+
+-- For an accepted build the script's file has this first bad line.
+abbrev pub ScriptCause : (b s : Option (List ℕ)) → ScriptRefusal → Type 0
+ScriptCause b s NoMemoryOfScript = Unit {0}
+ScriptCause b s (Line line kind) = (build : Plan) × (OnTold b (IsBuild build)
+    × OnTold s (λ bytes. (length bytes ≤ 1048576) × (script_of (takes_click build) (is_wire_at build) bytes ≡ Err (Line line kind))))
 
 -- When a fault may come, for the commands over a build and a script.
-abbrev pub Cause : (b s : Option (List ℕ)) (reading writing : Type 0) → Fault → Type 0
-Cause b s reading writing UsageFault = ⊥
-Cause b s reading writing Read = reading
-Cause b s reading writing Write = writing
-Cause b s reading writing BuildFault = OnTold b IsBadBuild
-Cause b s reading writing ScriptFault = (build : Plan) × (OnTold b (IsBuild build) × OnTold s (IsBadScript build))
-Cause b s reading writing Memory = Unit {0}
+abbrev pub FaultCause : (b s : Option (List ℕ)) (reading writing : Type 0) → Fault → Type 0
+FaultCause b s reading writing UsageFault = ⊥
+FaultCause b s reading writing Read = reading
+FaultCause b s reading writing Write = writing
+FaultCause b s reading writing (BuildFault refusal) = BuildCause b (plain_refusal refusal)
+FaultCause b s reading writing BuildTooLong = OnTold b (λ bytes. 67108864 < length bytes)
+FaultCause b s reading writing (ScriptFault refusal) = ScriptCause b s refusal
+FaultCause b s reading writing ScriptTooLong = (build : Plan) × (OnTold b (IsBuild build) × OnTold s (λ bytes. 1048576 < length bytes))
+FaultCause b s reading writing Memory = Unit {0}
+FaultCause b s reading writing _ = ⊥
+
+abbrev pub Cause : (b s : Option (List ℕ)) (reading writing : Type 0) → Stop → Type 0
+Cause b s reading writing (ToldStop fault) = FaultCause b s reading writing fault
+Cause b s reading writing NotYet = OnTold b (λ bytes. (length bytes ≤ 67108864) × IsNotYet bytes)
 
 -- Nothing was written, but where all or a part was.
 abbrev pub ButForWrites : Ending → Type 0 → Type 0
 ButForWrites (Ok done) P = Unit {0}
-ButForWrites (Err Write) P = Unit {0}
-ButForWrites (Err fault) P = P
+ButForWrites (Err (ToldStop Write)) P = Unit {0}
+ButForWrites (Err stop) P = P
 
 abbrev pub OnWriteFault : Ending → Type 0 → Type 0
-OnWriteFault (Err Write) P = P
+OnWriteFault (Err (ToldStop Write)) P = P
 OnWriteFault ending P = Unit {0}
 
 -- It was done for a build and a script that were accepted.
-pub record Did (b s : Option (List ℕ)) (did : Plan → List Act → Type 0) : Type 0 where
+pub record Did (b s : Option (List ℕ)) (did : Plan → Meaning → Type 0) : Type 0 where
   pub build : Plan
-  pub acts : List Act
-  pub accepted : Accepted b s build acts
-  pub wrote : did build acts
+  pub script : Meaning
+  pub accepted : Accepted b s build script
+  pub wrote : did build script
 
 -- How a command over a build and a script ends. `did` and `began` say that the whole of its text, and a prefix, was written.
-pub record Ends (b s : Option (List ℕ)) (reading writing untouched : Type 0) (did began : Plan → List Act → Type 0) (ending : Ending) : Type 0 where
+pub record Ends (b s : Option (List ℕ)) (reading writing untouched : Type 0) (did began : Plan → Meaning → Type 0) (ending : Ending) : Type 0 where
   pub done : OnOk ending (Did b s did)
   pub front : OnWriteFault ending (Did b s began)
   pub cause : IfErr ending (Cause b s reading writing)
   pub nothing : ButForWrites ending untouched
 
 -- what a command wrote, by its form: `world` a run of the uncompiled world
-abbrev pub DidForm : Form → (before now : Option (List ℕ)) → Plan → List Act → Type 0
-DidForm World before now build acts = WroteRun build acts before now
+abbrev pub DidForm : Form → (before now : Option (List ℕ)) → Plan → Meaning → Type 0
+DidForm World before now build script = WroteRun build script.acts before now
 
-abbrev pub BeganForm : Form → (before now : Option (List ℕ)) → Plan → List Act → Type 0
-BeganForm World before now build acts = WroteRunPrefix build acts before now
+abbrev pub BeganForm : Form → (before now : Option (List ℕ)) → Plan → Meaning → Type 0
+BeganForm World before now build script = WroteRunPrefix build script.acts before now
 
 -- How a call ends, by the form of its words.
 abbrev pub Ran : Option Form → Told → List (List ℕ) → (reading writing : Type 0) (before now : Option (List ℕ)) → Ending → Type 0
-Ran None told words reading writing before now ending = (ending ≡ Err UsageFault) × (now ≡ before)
+Ran None told words reading writing before now ending = (ending ≡ Err (ToldStop UsageFault)) × (now ≡ before)
 Ran (Some form) told words reading writing before now ending =
     Ends (told (word words 1)) (told (word words 2)) reading writing (now ≡ before) (DidForm form before now) (BeganForm form before now) ending
 
 -- ---- statuses and lines
 
-abbrev pub status_of : Fault → Status
-status_of UsageFault = Usage
-status_of Read = ReadFault
-status_of Write = WriteFault
-status_of BuildFault = BadBuild
-status_of ScriptFault = BadScript
-status_of Memory = NoMemory
+-- a stop whose line needs no room
+abbrev pub IsConstantStop : Stop → Type 0
+IsConstantStop (ToldStop UsageFault) = Unit {0}
+IsConstantStop (ToldStop Memory) = Unit {0}
+IsConstantStop _ = ⊥
+
+abbrev pub IsConstant : Ending → Type 0
+IsConstant (Ok done) = Unit {0}
+IsConstant (Err stop) = IsConstantStop stop
+
+-- of a first cause; want of memory has none
+abbrev pub status_of_cause : Option Refusal → Status
+status_of_cause None = NoMemory
+status_of_cause (Some refusal) = if is_block refusal then BadBlock else BadBuild
+
+abbrev pub status_of_script : ScriptRefusal → Status
+status_of_script NoMemoryOfScript = NoMemory
+status_of_script _ = BadScript
+
+abbrev pub status_of_graph : GraphRefusal → Status
+status_of_graph NoMemoryOfGraph = NoMemory
+status_of_graph _ = BadGraph
+
+abbrev pub status_of_fault : Fault → Status
+status_of_fault UsageFault = Usage
+status_of_fault Read = ReadFault
+status_of_fault Write = WriteFault
+status_of_fault (BuildFault refusal) = status_of_cause (plain_refusal refusal)
+status_of_fault BuildTooLong = BadBuild
+status_of_fault (ScriptFault refusal) = status_of_script refusal
+status_of_fault ScriptTooLong = BadScript
+status_of_fault Memory = NoMemory
+status_of_fault (Order line tick kind) = BadOrder
+status_of_fault OrderTooLong = BadOrder
+status_of_fault (Graph refusal) = status_of_graph refusal
+status_of_fault GraphTooLong = BadGraph
+
+abbrev pub status_of : Stop → Status
+status_of (ToldStop fault) = status_of_fault fault
+status_of NotYet = BadBuild
+
+-- the line on standard error
+abbrev pub stop_line : Stop → List ℕ
+stop_line (ToldStop fault) = fault_line fault
+stop_line NotYet = codes "redpile: build: not yet\n"
 
 -- This answer comes exactly here: a read's fault or want of memory may stand in its place.
 pub record Exactly (P : Type 0) (answer status : Status) : Type 0 where
@@ -134,6 +229,11 @@ pub record Exactly (P : Type 0) (answer status : Status) : Type 0 where
 abbrev pub BuildClause : Option Form → Told → List (List ℕ) → Status → Type 0
 BuildClause None told words status = status ≡ BadBuild → ⊥
 BuildClause (Some World) told words status = OnTold (told (word words 1)) (λ bytes. Exactly (IsBadBuild bytes) BadBuild status)
+
+-- BadBlock comes exactly where the first cause of the build's file is a block.
+abbrev pub BlockClause : Option Form → Told → List (List ℕ) → Status → Type 0
+BlockClause None told words status = status ≡ BadBlock → ⊥
+BlockClause (Some World) told words status = OnTold (told (word words 1)) (λ bytes. Exactly (IsBadBlock bytes) BadBlock status)
 
 -- the build is accepted, and the script's file is bad for it
 abbrev pub IsBadScriptFor : List ℕ → List ℕ → Type 0
@@ -158,23 +258,23 @@ FrontClause (Some form) told words before now status = status ≡ WriteFault →
 -- An accepted build and script give Done, but for a fault that was counted and for want of memory.
 abbrev pub CompleteClause : Option Form → Told → List (List ℕ) → Status → Type 0
 CompleteClause None told words status = Unit {0}
-CompleteClause (Some World) told words status = (build : Plan) (acts : List Act) (build_bytes bytes : List ℕ) → told (word words 1) ≡ Some build_bytes → told (word words 2) ≡ Some bytes → IsBuild build build_bytes → IsScript build acts bytes
+CompleteClause (Some World) told words status = (build : Plan) (script : Meaning) (build_bytes bytes : List ℕ) → told (word words 1) ≡ Some build_bytes → told (word words 2) ≡ Some bytes → IsBuild build build_bytes → IsScript build script bytes
     → (status ≡ Done) ⊎ ((status ≡ ReadFault) ⊎ ((status ≡ WriteFault) ⊎ (status ≡ NoMemory)))
 
 -- The line of a fault that has its cause was written, or, only where a count rose, a prefix of it.
-pub record LineOf (cause : Fault → Type 0) (rose : Type 0) (before now : Option (List ℕ)) (status : Status) : Type 0 where
-  pub fault : Fault
-  pub stands_for : status ≡ status_of fault
-  pub has_cause : cause fault
-  pub wrote : Wrote before now (fault_line fault) ⊎ (rose × WrotePrefix before now (fault_line fault))
+pub record LineOf (cause : Stop → Type 0) (rose : Type 0) (before now : Option (List ℕ)) (status : Status) : Type 0 where
+  pub stop : Stop
+  pub stands_for : status ≡ status_of stop
+  pub has_cause : cause stop
+  pub wrote : Wrote before now (stop_line stop) ⊎ (rose × WrotePrefix before now (stop_line stop))
 
 -- When a fault may come, by the form.
-abbrev pub CauseOf : Option Form → Told → List (List ℕ) → (reading writing : Type 0) → Fault → Type 0
-CauseOf None told words reading writing fault = fault ≡ UsageFault
-CauseOf (Some World) told words reading writing fault = Cause (told (word words 1)) (told (word words 2)) reading writing fault
+abbrev pub CauseOf : Option Form → Told → List (List ℕ) → (reading writing : Type 0) → Stop → Type 0
+CauseOf None told words reading writing stop = stop ≡ ToldStop UsageFault
+CauseOf (Some World) told words reading writing stop = Cause (told (word words 1)) (told (word words 2)) reading writing stop
 
 -- Each status but Done writes one line to `err`, and Done writes nothing there.
-pub record LineClause (cause : Fault → Type 0) (rose : Type 0) (before now : Option (List ℕ)) (status : Status) : Type 0 where
+pub record LineClause (cause : Stop → Type 0) (rose : Type 0) (before now : Option (List ℕ)) (status : Status) : Type 0 where
   pub none : status ≡ Done → now ≡ before
   pub line : (status ≡ Done → ⊥) → LineOf cause rose before now status
 

@@ -1,12 +1,8 @@
-pub mod Place
-pub mod Plan
-pub mod Places
+pub mod Playable
+pub mod Unmarked
 pub mod Power
 pub mod World
-pub mod Scripts
-pub mod Texts
+pub mod Moments
 pub mod Played
-pub mod BlockText
-pub mod File
 pub mod Clauses
 pub mod Statuses

@@ -6,9 +6,13 @@ use Rattle.circuit.specs.declared.Step.TheVariants.{Click as ClickAt, Tick as On
 use Rattle.circuit.specs.Circuit.{Circuit, State, Clicks, Ticks}
 use Rattle.circuit.specs.Taken.{Takes}
 use Rattle.rp_io.specs.Causes.{Wrote, WrotePrefix}
-use Rattle.redpile_top.specs.Plan.{Plan, outputs}
-use Rattle.redpile_top.specs.Scripts.{script_of}
-use Rattle.redpile_top.specs.Texts.{header, world_text}
+use Rattle.build.specs.Plan.{Plan}
+use Rattle.redpile_top.specs.Unmarked.{outputs}
+use Rattle.script.specs.Clickable.{takes_click}
+use Rattle.script.specs.Fit.{EachClickTaken}
+use Rattle.redpile_top.specs.Playable.{IsPlayable}
+use Rattle.report.specs.Header.{header}
+use Rattle.redpile_top.specs.Moments.{world_text}
 use Rattle.redpile_top.specs.World.{shows}
 
 -- the step leads from one state to the other
@@ -24,10 +28,10 @@ TakenStep C OneTick = Unit {0}
 abbrev pub header_of : Plan → List ℕ
 header_of build = header (outputs build)
 
--- the acts of some text for this build
+-- each block of the build is played, and it takes each click
 pub record IsScriptFor (build : Plan) (acts : List Act) : Type 0 where
-  pub text : List ℕ
-  pub is : script_of text build ≡ Some acts
+  pub playable : IsPlayable build
+  pub clicks : EachClickTaken (takes_click build) acts
 
 -- The text of one run of the build by these acts was written.
 pub record WroteRun (build : Plan) (acts : List Act) (before now : Option (List ℕ)) : Type 0 where

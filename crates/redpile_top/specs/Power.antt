@@ -1,14 +1,15 @@
 -- The power that blocks give and read, for a level at each place: the output of a component, 0 elsewhere.
 use Rattle.std.specs.Prelude.{ℕ, max, Bool, not, nat_lt, if◌then◌else◌, List, [], ◌∷◌, map}
-use Rattle.redpile_top.specs.declared.block_table.Side.{Side}
-use Rattle.redpile_top.specs.declared.block_table.Side.TheVariants.{Down, Up}
-use Rattle.redpile_top.specs.declared.block_table.Face.{Face}
-use Rattle.redpile_top.specs.declared.block_table.Face.TheVariants.{Floor, Wall, Ceiling}
-use Rattle.redpile_top.specs.declared.block_table.Block.{Block}
-use Rattle.redpile_top.specs.declared.block_table.Block.TheVariants.{Torch, WallTorch, Lever}
+use Rattle.block_table.specs.declared.Side.{Side}
+use Rattle.block_table.specs.declared.Side.TheVariants.{Down, Up}
+use Rattle.block_table.specs.declared.Face.{Face}
+use Rattle.block_table.specs.declared.Face.TheVariants.{Floor, Wall, Ceiling}
+use Rattle.block_table.specs.declared.Block.{Block}
+use Rattle.block_table.specs.declared.Block.TheVariants.{Torch, WallTorch, Lever}
 use Rattle.circuit.specs.declared.Pos.{Pos}
-use Rattle.redpile_top.specs.Place.{beside, opposite, sides, same_side}
-use Rattle.redpile_top.specs.Plan.{Plan, block_at, solid_at}
+use Rattle.build.specs.Place.{beside, sides, same_side}
+use Rattle.block_table.specs.Facts.{opposite}
+use Rattle.build.specs.Plan.{Plan, block_at, solid_at}
 
 abbrev pub greatest : List ℕ → ℕ
 greatest [] = 0

@@ -1,5 +1,5 @@
 -- A build as a circuit: its components by place, and what they read of each other.
-use Rattle.std.specs.Prelude.{◌≡◌, ◌≤◌, ◌<◌, slice_index_or, ℕ, length, Bool, true, false, List, map, Option, Some, None}
+use Rattle.std.specs.Prelude.{◌≡◌, ◌≤◌, ◌<◌, slice_index_or, ℕ, length, Bool, true, false, List, map, Option, Some, None, find}
 use Rattle.circuit.specs.declared.Pos.{Pos}
 use Rattle.circuit.specs.declared.Component.{Component}
 use Rattle.circuit.specs.declared.Component.TheVariants.{Lever as LeverPart, Torch as TorchPart, Lamp as LampPart}
@@ -10,12 +10,15 @@ use Rattle.circuit.specs.Component.{top}
 use Rattle.circuit.specs.Circuit.{Circuit, State, IsFiringList, fire_all, seen}
 use Rattle.circuit.specs.Firing.{due_at}
 use Rattle.circuit.specs.Shows.{Shows}
-use Rattle.redpile_top.specs.declared.block_table.Block.{Block}
-use Rattle.redpile_top.specs.declared.block_table.Block.TheVariants.{Torch, WallTorch, Lever, Lamp}
-use Rattle.redpile_top.specs.declared.block_table.Side.TheVariants.{Down}
-use Rattle.redpile_top.specs.Place.{opposite, same_place}
-use Rattle.redpile_top.specs.declared.build.OutPlace.{OutPlace}
-use Rattle.redpile_top.specs.Plan.{Plan, entry, block_at, outputs, volume, place_of}
+use Rattle.block_table.specs.declared.Block.{Block}
+use Rattle.block_table.specs.declared.Block.TheVariants.{Torch, WallTorch, Lever, Lamp}
+use Rattle.block_table.specs.declared.Side.TheVariants.{Down}
+use Rattle.block_table.specs.Facts.{opposite}
+use Rattle.build.specs.Place.{same_place}
+use Rattle.build.specs.declared.OutPlace.{OutPlace}
+use Rattle.build.specs.declared.Pending.{Pending}
+use Rattle.build.specs.Plan.{Plan, entry, block_at, volume, place_of}
+use Rattle.redpile_top.specs.Unmarked.{outputs}
 use Rattle.redpile_top.specs.Power.{read, read_around}
 
 -- the component that a block is
@@ -51,9 +54,22 @@ stored_value (Lever face facing powered) = on_if powered
 stored_value (Lamp lit) = on_if lit
 stored_value _ = 0
 
--- before the start nothing is pending
+-- the tick that is pending at a place before the start
+abbrev pub waiting_at : List Pending → Pos → Option Pending
+waiting_at ticks p = find (λ (tick : Pending). same_place tick.pos p) ticks
+
+abbrev pub cell_with : ℕ → Option Pending → Cell
+cell_with value None = record { value = value; due = 0; priority = 0 }
+cell_with value (Some tick) = record { value = value; due = tick.due; priority = tick.priority }
+
+-- only a component holds something before the start
+abbrev pub stored_of : Option Component → ℕ → Option Pending → Cell
+stored_of None value tick = record { value = 0; due = 0; priority = 0 }
+stored_of (Some component) value tick = cell_with value tick
+
+-- what a place holds before the start
 unfoldable pub stored : Plan → Pos → Cell
-stored b p = record { value = stored_value (block_at b p); due = 0; priority = 0 }
+stored b p = stored_of (role_of (block_at b p)) (stored_value (block_at b p)) (waiting_at b.pending p)
 
 -- the world of a build: its keys are places, and each place reads what the components around it give
 abbrev pub world_circuit : Plan → Circuit Pos

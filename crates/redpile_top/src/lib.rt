@@ -1,14 +1,10 @@
 //! The whole program over its words, its files and its two sinks.
 #![tactic(auto)]
 
-mod block_table;
-mod build;
 mod form;
 mod play;
+mod playable;
 mod power_rules;
-mod report;
-mod schematic;
-mod script;
 mod status;
 #[cfg(test)]
 mod tests;

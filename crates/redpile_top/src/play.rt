@@ -3,17 +3,19 @@
 ghost use Rattle.std.specs.Prelude.{◌≡◌, ◌≤◌, ◌<◌, ◌+◌, ◌*◌, ◌^◌, ℕ, List, length, IfOk, OnOk, OnErr, IsErrOf};
 ghost use Rattle.rp_io.specs.Causes.{Rose, HasCause, Wrote, WrotePrefix};
 ghost use Rattle.circuit.specs.Circuit.{view, start};
-ghost use Rattle.redpile_top.specs.Texts.{view_line, world_trailer, moment_after};
+ghost use Rattle.report.specs.ViewLine.{view_line};
+ghost use Rattle.report.specs.Trailers.{world_trailer};
+ghost use Rattle.redpile_top.specs.Moments.{moment_after};
 ghost use Rattle.redpile_top.specs.World.{world_circuit, state_in};
 ghost use Rattle.redpile_top.specs.Played.{StepTo, TakenStep, IsScriptFor, header_of, WroteRun, WroteRunPrefix};
 
-use crate::build::{Build, outputs};
-use crate::report::{Cause, LineBuf, push_header, push_trailer, push_view};
-use crate::script::Script;
 use crate::world_engine::World;
+use build::{Build, Marks, outputs};
 use circuit::Step;
+use report::{Cause, LineBuf, push_header, push_trailer, push_view};
 use rp_io::{Sink, WriteFault, put_all};
 use rp_text::NoMemory;
+use script::Script;
 use std::alloc::Global;
 
 /// Why a run wasn't written whole.
@@ -27,7 +29,6 @@ pub enum PlayRefusal {
 const LINE_ROOM: usize = 96;
 
 /// Writes the line of a view.
-#[tactic(auto, unfolding(crate::specs::Texts::appended))]
 fn put_view<O: Sink>(
     out: &mut O,
     world: &World,
@@ -49,7 +50,6 @@ fn put_view<O: Sink>(
 }
 
 /// Writes the trailer.
-#[tactic(auto, unfolding(crate::specs::Texts::appended))]
 fn put_trailer<O: Sink>(out: &mut O, line: &mut LineBuf) -> Result<(), WriteFault>
     requires { 96 ≤ line.old.room }
     ensures all { OnOk result (Wrote (O.written out.old) (O.written out.new) world_trailer) }
@@ -94,13 +94,13 @@ fn put_run<O: Sink>(
     out: &mut O,
 ) -> Result<(), WriteFault>
     requires header { header.now ≡ header_of world.old.plan }
-    requires script { IsScriptFor world.old.plan script.now }
+    requires script { IsScriptFor world.old.plan script.now.acts }
     requires time { world.old.time ≡ 0 }
     requires start { state_in world.old ≡ start (world_circuit world.old.plan) }
     requires values { length values.old ≡ length (world_circuit world.old.plan).shown }
     requires room { 96 + 3 * length values.old ≤ line.old.room }
-    ensures done { OnOk result (WroteRun world.old.plan script.now (O.written out.old) (O.written out.new)) }
-    ensures front { OnErr result (WroteRunPrefix world.old.plan script.now (O.written out.old) (O.written out.new)) }
+    ensures done { OnOk result (WroteRun world.old.plan script.now.acts (O.written out.old) (O.written out.new)) }
+    ensures front { OnErr result (WroteRunPrefix world.old.plan script.now.acts (O.written out.old) (O.written out.new)) }
     ensures cause { HasCause (O.faults out.old) (O.faults out.new) result }
 {
     put_all(out, header)?;
@@ -137,14 +137,14 @@ pub fn play_world<O: Sink>(
     script: &Script,
     out: &mut O,
 ) -> Result<(), PlayRefusal>
-    requires { IsScriptFor build.now script.now }
-    ensures done { OnOk result (WroteRun build.now script.now (O.written out.old) (O.written out.new)) }
-    ensures front { IsErrOf result PlayRefusal.WriteFault → WroteRunPrefix build.now script.now (O.written out.old) (O.written out.new) }
+    requires { IsScriptFor build.now script.now.acts }
+    ensures done { OnOk result (WroteRun build.now script.now.acts (O.written out.old) (O.written out.new)) }
+    ensures front { IsErrOf result PlayRefusal.WriteFault → WroteRunPrefix build.now script.now.acts (O.written out.old) (O.written out.new) }
     ensures fault { IsErrOf result PlayRefusal.WriteFault → Rose (O.faults out.old) (O.faults out.new) }
     ensures nothing { IsErrOf result PlayRefusal.NoMemory → O.written out.new ≡ O.written out.old }
     ensures later { O.faults out.old ≤ O.faults out.new }
 {
-    let places = outputs(alloc, build)?;
+    let places = outputs(alloc, build, &Marks::new(alloc))?;
     let mut header = Vec::new(alloc);
     push_header(&mut header, &places)?;
     let mut line = LineBuf::new(alloc, LINE_ROOM + 3 * places.len())?;

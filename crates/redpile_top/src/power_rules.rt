@@ -2,13 +2,13 @@
 
 ghost use Rattle.std.specs.Prelude.{◌≡◌, ℕ, IsTrue};
 ghost use Rattle.circuit.specs.declared.Pos.{Pos};
-ghost use Rattle.redpile_top.specs.Place.{beside};
-ghost use Rattle.redpile_top.specs.Plan.{IsNear, in_box};
+ghost use Rattle.build.specs.Place.{same_side};
+ghost use Rattle.build.specs.Plan.{IsNear, in_box};
 ghost use Rattle.redpile_top.specs.Power.{full, hung, weak, strong, charge, read, read_around};
 ghost use Rattle.redpile_top.specs.World.{readings_at};
 
-use crate::block_table::{self, Block, Face, Side, same_side};
-use crate::build::Build;
+use block_table::{Block, Face, Side, is_solid, opposite};
+use build::{Build, beside};
 use circuit::{Pos, Readings};
 
 /// What stands at each place gives: the output of a component, 0 elsewhere.
@@ -19,43 +19,11 @@ pub trait Levels {
         ensures { result ≡ level_of self.now pos };
 }
 
-/// The place beside a place.
-fn beside(pos: Pos, side: Side) -> Pos
-    requires { IsNear 3 pos }
-    ensures { result ≡ beside side pos }
+/// Whether two sides are one.
+fn same_side(a: Side, b: Side) -> bool
+    ensures { result ≡ same_side a b }
 {
-    match side {
-        Side::Down => Pos {
-            x: pos.x,
-            y: pos.y - 1,
-            z: pos.z,
-        },
-        Side::Up => Pos {
-            x: pos.x,
-            y: pos.y + 1,
-            z: pos.z,
-        },
-        Side::North => Pos {
-            x: pos.x,
-            y: pos.y,
-            z: pos.z - 1,
-        },
-        Side::South => Pos {
-            x: pos.x,
-            y: pos.y,
-            z: pos.z + 1,
-        },
-        Side::West => Pos {
-            x: pos.x - 1,
-            y: pos.y,
-            z: pos.z,
-        },
-        Side::East => Pos {
-            x: pos.x + 1,
-            y: pos.y,
-            z: pos.z,
-        },
-    }
+    a as u8 == b as u8
 }
 
 fn full(level: u8) -> u8
@@ -71,7 +39,7 @@ fn hung(face: Face, facing: Side) -> Side
     match face {
         Face::Floor => Side::Down,
         Face::Ceiling => Side::Up,
-        Face::Wall => block_table::opposite(facing),
+        Face::Wall => opposite(facing),
     }
 }
 
@@ -89,7 +57,7 @@ pub fn weak<L: Levels>(build: &Build, levels: &L, from: Pos, side: Side) -> u8
             }
         }
         Block::WallTorch { facing, .. } => {
-            if same_side(side, block_table::opposite(facing)) {
+            if same_side(side, opposite(facing)) {
                 0
             } else {
                 full(levels.level(from))
@@ -125,7 +93,7 @@ pub fn strong<L: Levels>(build: &Build, levels: &L, from: Pos, side: Side) -> u8
 }
 
 /// The greatest strong power that its neighbours give to a block.
-#[tactic(auto, using(crate::proofs::Near::near_step), unfolding(crate::specs::Power::charge))]
+#[tactic(auto, using(build::specs::Near::near_step), unfolding(crate::specs::Power::charge))]
 fn charge<L: Levels>(build: &Build, levels: &L, pos: Pos) -> u8
     requires { IsNear 1 pos }
     ensures { result ≡ charge build.now (L.level_of levels.now) pos }
@@ -140,17 +108,17 @@ fn charge<L: Levels>(build: &Build, levels: &L, pos: Pos) -> u8
 }
 
 /// The power that a block reads from its neighbour on a side.
-#[tactic(auto, using(crate::proofs::Near::near_inside_three, crate::proofs::Near::near_next), unfolding(crate::specs::Power::read))]
+#[tactic(auto, using(build::specs::Near::near_inside_three, build::specs::Near::near_next), unfolding(crate::specs::Power::read))]
 pub fn read_power<L: Levels>(build: &Build, levels: &L, reader: Pos, side: Side) -> u8
     requires { IsTrue (in_box build.now reader) }
     ensures { result ≡ read build.now (L.level_of levels.now) reader side }
 {
     let _ = build.width();
     let neighbour = beside(reader, side);
-    if block_table::is_solid(build.at(neighbour)) {
+    if is_solid(build.at(neighbour)) {
         charge(build, levels, neighbour)
     } else {
-        weak(build, levels, neighbour, block_table::opposite(side))
+        weak(build, levels, neighbour, opposite(side))
     }
 }
 
@@ -181,7 +149,7 @@ pub fn readings<L: Levels>(build: &Build, levels: &L, pos: Pos) -> Readings
             build,
             levels,
             pos,
-            block_table::opposite(facing),
+            opposite(facing),
         ),
         Block::Lamp { .. } => read_around(build, levels, pos),
         _ => 0,

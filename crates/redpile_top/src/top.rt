@@ -1,19 +1,21 @@
 //! The top call.
 
-ghost use Rattle.std.specs.Prelude.{◌≡◌, ◌≢◌, ◌↔◌, ◌≤◌, List, ℕ, map, None, IfOk, IfErr, OnOk, OnErr, string_bytes};
+ghost use Rattle.std.specs.Prelude.{◌≡◌, ◌≢◌, ◌↔◌, ◌≤◌, ◌++◌, [], List, ℕ, map, None, IfOk, IfErr, IfSome, IsNone, OnOk, OnErr, MatchOption, string_bytes};
 ghost use Rattle.rp_io.specs.Causes.{Rose, HasCause, Wrote, WrotePrefix};
-ghost use Rattle.redpile_top.specs.Texts.{fault_line};
+ghost use Rattle.report.specs.FaultLine.{fault_line, block_line_begin, block_name, newline};
+ghost use Rattle.report.specs.RoomyText.{empty_text};
 ghost use Rattle.redpile_top.specs.Played.{IsScriptFor, WroteRun, WroteRunPrefix};
-ghost use Rattle.redpile_top.specs.Clauses.{Accepted, Cause, Ends, Ran, form_of, word, AskedClause, BuildClause, ScriptClause, DoneClause, FrontClause, CompleteClause, LineClause, CauseOf};
+ghost use Rattle.redpile_top.specs.Clauses.{Accepted, Cause, Ends, Ran, form_of, word, stop_line, IsConstant, IsConstantStop, AskedClause, BuildClause, BlockClause, ScriptClause, DoneClause, FrontClause, CompleteClause, LineClause, CauseOf};
 
-use crate::build::Build;
 use crate::form::{Form, form_of, word};
 use crate::play::{PlayRefusal, play_world};
-use crate::report::{Fault, fault_text};
-use crate::schematic::{BuildRefusal, read_build};
-use crate::script::{Script, ScriptRefusal, read_script};
-use crate::status::{Status, status_of};
+use crate::playable::all_playable;
+use crate::status::{Status, Stop, status_of};
+use build::Build;
+use report::{Fault, LineBuf, push_fault};
 use rp_io::{Inputs, ReadRefusal, Sink, WriteFault, put_all, read_whole};
+use schematic::{BuildRefusal, read_build};
+use script::{Script, read_script};
 use std::alloc::Global;
 
 /// The most bytes that a build's file may have.
@@ -22,41 +24,51 @@ const BUILD_LIMIT: u64 = 67_108_864;
 /// The most bytes that a script's file may have.
 const SCRIPT_LIMIT: u64 = 1_048_576;
 
+/// Room for the line of every fault but for the name of a block.
+const FAULT_ROOM: usize = 128;
+
+fn told<T>(fault: Fault) -> Result<T, Stop>
+    ensures { result ≡ Err (Stop.Told fault) }
+{
+    Err(Stop::Told { fault })
+}
+
 /// Reads a build and a script, in this order.
 fn accepted<I: Inputs>(
     alloc: Global,
     inputs: &mut I,
     build: &str,
     script: &str,
-) -> Result<(Build, Script), Fault>
+) -> Result<(Build, Script), Stop>
     ensures files { I.file inputs.new ≡ I.file inputs.old }
     ensures asked { (name : List ℕ) → name ≢ build.now → name ≢ script.now → I.asked inputs.new name ≡ I.asked inputs.old name }
     ensures later { I.faults inputs.old ≤ I.faults inputs.new }
     ensures ok { IfOk result (λ found. Accepted (I.file inputs.old build.now) (I.file inputs.old script.now) found.0 found.1) }
-    ensures script { IfOk result (λ found. IsScriptFor found.0 found.1) }
+    ensures script { IfOk result (λ found. IsScriptFor found.0 found.1.acts) }
     ensures cause { IfErr result (Cause (I.file inputs.old build.now) (I.file inputs.old script.now) (Rose (I.faults inputs.old) (I.faults inputs.new)) ⊥) }
 {
     let bytes = match read_whole(alloc, inputs, build, BUILD_LIMIT) {
         Ok(bytes) => bytes,
-        Err(ReadRefusal::ReadFault) => return Err(Fault::Read),
-        Err(ReadRefusal::TooLong) => return Err(Fault::Build),
-        Err(ReadRefusal::NoMemory) => return Err(Fault::Memory),
+        Err(ReadRefusal::ReadFault) => return told(Fault::Read),
+        Err(ReadRefusal::TooLong) => return told(Fault::BuildTooLong),
+        Err(ReadRefusal::NoMemory) => return told(Fault::Memory),
     };
     let build = match read_build(alloc, &bytes) {
         Ok(build) => build,
-        Err(BuildRefusal::Refused) => return Err(Fault::Build),
-        Err(BuildRefusal::NoMemory) => return Err(Fault::Memory),
+        Err(refusal) => return told(Fault::Build { refusal }),
     };
+    if !all_playable(&build) {
+        return Err(Stop::NotYet);
+    }
     let bytes = match read_whole(alloc, inputs, script, SCRIPT_LIMIT) {
         Ok(bytes) => bytes,
-        Err(ReadRefusal::ReadFault) => return Err(Fault::Read),
-        Err(ReadRefusal::TooLong) => return Err(Fault::Script),
-        Err(ReadRefusal::NoMemory) => return Err(Fault::Memory),
+        Err(ReadRefusal::ReadFault) => return told(Fault::Read),
+        Err(ReadRefusal::TooLong) => return told(Fault::ScriptTooLong),
+        Err(ReadRefusal::NoMemory) => return told(Fault::Memory),
     };
     match read_script(alloc, &bytes, &build) {
         Ok(script) => Ok((build, script)),
-        Err(ScriptRefusal::Refused) => Err(Fault::Script),
-        Err(ScriptRefusal::NoMemory) => Err(Fault::Memory),
+        Err(refusal) => told(Fault::Script { refusal }),
     }
 }
 
@@ -67,54 +79,134 @@ fn world<I: Inputs, O: Sink>(
     build: &str,
     script: &str,
     out: &mut O,
-) -> Result<(), Fault>
+) -> Result<(), Stop>
     ensures asked { (name : List ℕ) → name ≢ build.now → name ≢ script.now → I.asked inputs.new name ≡ I.asked inputs.old name }
     ensures ends { Ends (I.file inputs.old build.now) (I.file inputs.old script.now) (Rose (I.faults inputs.old) (I.faults inputs.new))
         (Rose (O.faults out.old) (O.faults out.new)) (O.written out.new ≡ O.written out.old)
-        (λ build acts. WroteRun build acts (O.written out.old) (O.written out.new)) (λ build acts. WroteRunPrefix build acts (O.written out.old) (O.written out.new)) result }
+        (λ build script. WroteRun build script.acts (O.written out.old) (O.written out.new)) (λ build script. WroteRunPrefix build script.acts (O.written out.old) (O.written out.new)) result }
 {
     let (build, script) = match accepted(alloc, inputs, build, script) {
         Ok(found) => found,
-        Err(fault) => return Err(fault),
+        Err(stop) => return Err(stop),
     };
     match play_world(alloc, &build, &script, out) {
         Ok(()) => Ok(()),
-        Err(PlayRefusal::WriteFault) => Err(Fault::Write),
-        Err(PlayRefusal::NoMemory) => Err(Fault::Memory),
+        Err(PlayRefusal::WriteFault) => told(Fault::Write),
+        Err(PlayRefusal::NoMemory) => told(Fault::Memory),
     }
 }
 
-/// The call but for its line and status.
+/// The call but for its line and status, and room for the line. No room is needed where the words
+/// have no form, and there is none where memory ran out at once.
 fn run<I: Inputs, O: Sink>(
     alloc: Global,
     words: &[String],
     inputs: &mut I,
     out: &mut O,
-) -> Result<(), Fault>
+) -> (Result<(), Stop>, Option<LineBuf>)
     ensures asked { let names = map string_bytes words.now in AskedClause (form_of names) names (I.asked inputs.old) (I.asked inputs.new) }
     ensures ran { let names = map string_bytes words.now in Ran (form_of names) (I.file inputs.old) names
-        (Rose (I.faults inputs.old) (I.faults inputs.new)) (Rose (O.faults out.old) (O.faults out.new)) (O.written out.old) (O.written out.new) result }
+        (Rose (I.faults inputs.old) (I.faults inputs.new)) (Rose (O.faults out.old) (O.faults out.new)) (O.written out.old) (O.written out.new) result.0 }
+    ensures room { MatchOption result.1 (IsConstant result.0) (λ line. line ≡ empty_text 128) }
 {
     match form_of(words) {
-        None => Err(Fault::Usage),
-        Some(Form::World) => world(alloc, inputs, word(words, 1), word(words, 2), out),
+        None => (told(Fault::Usage), None),
+        Some(Form::World) => match LineBuf::new(alloc, FAULT_ROOM) {
+            Ok(line) => {
+                let ending = world(alloc, inputs, word(words, 1), word(words, 2), out);
+                (ending, Some(line))
+            }
+            Err(_) => (told(Fault::Memory), None),
+        },
     }
 }
 
-/// Writes the line of a fault.
-fn put_fault<E: Sink>(err: &mut E, fault: Fault) -> Result<(), WriteFault>
-    ensures all { OnOk result (Wrote (E.written err.old) (E.written err.new) (fault_line fault)) }
-    ensures front { OnErr result (WrotePrefix (E.written err.old) (E.written err.new) (fault_line fault)) }
+/// The name of the block that a fault is about, if it is about one.
+#[tactic(auto, unfolding(report::specs::FaultLine::fault_line))]
+fn refused_block(fault: &Fault) -> Option<&[u8]>
+    ensures some { IfSome result (λ name. fault_line fault.now ≡ block_line_begin ++ (name.now ++ newline)) }
+    ensures none { IsNone result → block_name fault.now ≡ [] }
+{
+    match fault {
+        Fault::Build {
+            refusal: BuildRefusal::Block { name },
+        } => Some(&name.items),
+        _ => None,
+    }
+}
+
+/// Writes the line of a block in three pieces, so that it needs no memory.
+fn put_block<E: Sink>(err: &mut E, name: &[u8]) -> Result<(), WriteFault>
+    ensures all { OnOk result (Wrote (E.written err.old) (E.written err.new) (block_line_begin ++ (name.now ++ newline))) }
+    ensures front { OnErr result (WrotePrefix (E.written err.old) (E.written err.new) (block_line_begin ++ (name.now ++ newline))) }
     ensures cause { HasCause (E.faults err.old) (E.faults err.new) result }
 {
-    put_all(err, fault_text(fault))
+    put_all(err, b"redpile: block: ")?;
+    put_all(err, name)?;
+    put_all(err, b"\n")
+}
+
+/// Writes the line of a fault.
+fn put_fault<E: Sink>(err: &mut E, line: &mut LineBuf, fault: &Fault) -> Result<(), WriteFault>
+    requires { line.old ≡ empty_text 128 }
+    ensures all { OnOk result (Wrote (E.written err.old) (E.written err.new) (fault_line fault.now)) }
+    ensures front { OnErr result (WrotePrefix (E.written err.old) (E.written err.new) (fault_line fault.now)) }
+    ensures cause { HasCause (E.faults err.old) (E.faults err.new) result }
+{
+    match refused_block(fault) {
+        Some(name) => put_block(err, name),
+        None => {
+            push_fault(line, fault);
+            put_all(err, line.bytes())
+        }
+    }
+}
+
+/// Writes the line of a stop for which there is no room.
+#[tactic(auto, unfolding(report::specs::FaultLine::fault_line))]
+fn put_constant<E: Sink>(err: &mut E, stop: &Stop) -> Result<(), WriteFault>
+    requires { IsConstantStop stop.now }
+    ensures all { OnOk result (Wrote (E.written err.old) (E.written err.new) (stop_line stop.now)) }
+    ensures front { OnErr result (WrotePrefix (E.written err.old) (E.written err.new) (stop_line stop.now)) }
+    ensures cause { HasCause (E.faults err.old) (E.faults err.new) result }
+{
+    match stop {
+        Stop::Told { fault } => match fault {
+            Fault::Usage => put_all(err, b"redpile: usage\n"),
+            Fault::Memory => put_all(err, b"redpile: out of memory\n"),
+            _ => unreachable!(),
+        },
+        Stop::NotYet => unreachable!(),
+    }
+}
+
+/// Writes the line of a stop, in this room if there is any.
+fn put_stop<E: Sink>(
+    err: &mut E,
+    room: Option<LineBuf>,
+    stop: &Stop,
+) -> Result<(), WriteFault>
+    requires { MatchOption room (IsConstantStop stop.now) (λ line. line ≡ empty_text 128) }
+    ensures all { OnOk result (Wrote (E.written err.old) (E.written err.new) (stop_line stop.now)) }
+    ensures front { OnErr result (WrotePrefix (E.written err.old) (E.written err.new) (stop_line stop.now)) }
+    ensures cause { HasCause (E.faults err.old) (E.faults err.new) result }
+{
+    let Some(room) = room else {
+        return put_constant(err, stop);
+    };
+    let mut line = room;
+    match stop {
+        Stop::Told { fault } => put_fault(err, &mut line, fault),
+        Stop::NotYet => put_all(err, b"redpile: build: not yet\n"),
+    }
 }
 
 /// The whole program over its words, which don't include its own name, its files and its two
 /// sinks: standard output and standard error.
 ///
 /// `world BUILD SCRIPT` reads a build and a script and writes what the build shows: the header, a
-/// line for each view, and the trailer. Any other words are Usage.
+/// line for each view, and the trailer. A build with a block that isn't played yet is refused.
+/// Any other words are Usage.
 pub fn redpile<I: Inputs, O: Sink, E: Sink>(
     alloc: Global,
     words: &[String],
@@ -126,6 +218,7 @@ pub fn redpile<I: Inputs, O: Sink, E: Sink>(
     ensures read { result ≡ Status.ReadFault → Rose (I.faults inputs.old) (I.faults inputs.new) }
     ensures write { result ≡ Status.WriteFault → Rose (O.faults out.old) (O.faults out.new) }
     ensures build { let names = map string_bytes words.now in BuildClause (form_of names) (I.file inputs.old) names result }
+    ensures block { let names = map string_bytes words.now in BlockClause (form_of names) (I.file inputs.old) names result }
     ensures script { let names = map string_bytes words.now in ScriptClause (form_of names) (I.file inputs.old) names result }
     ensures done { let names = map string_bytes words.now in DoneClause (form_of names) (I.file inputs.old) names (O.written out.old) (O.written out.new) result }
     ensures front { let names = map string_bytes words.now in FrontClause (form_of names) (I.file inputs.old) names (O.written out.old) (O.written out.new) result }
@@ -136,12 +229,13 @@ pub fn redpile<I: Inputs, O: Sink, E: Sink>(
         LineClause (CauseOf (form_of names) (I.file inputs.old) names (Rose (I.faults inputs.old) (I.faults inputs.new)) (Rose (O.faults out.old) (O.faults out.new)))
         (Rose (E.faults err.old) (E.faults err.new)) (E.written err.old) (E.written err.new) result }
 {
-    match run(alloc, words, inputs, out) {
+    let (ending, room) = run(alloc, words, inputs, out);
+    match ending {
         Ok(()) => Status::Done,
-        Err(fault) => {
+        Err(stop) => {
             // A fault of `err` changes nothing.
-            let _line = put_fault(err, fault);
-            status_of(fault)
+            let _line = put_stop(err, room, &stop);
+            status_of(&stop)
         }
     }
 }

@@ -5,13 +5,13 @@ ghost use Rattle.circuit.specs.declared.Pos.{Pos};
 ghost use Rattle.circuit.specs.Circuit.{outs, attended_at, attend, fired_at, fired_in, fire, put, seen, view, start, Clicks, Ticks};
 ghost use Rattle.circuit.specs.Taken.{Takes};
 ghost use Rattle.circuit.specs.Firing.{due_at};
-ghost use Rattle.redpile_top.specs.Place.{same_place};
-ghost use Rattle.redpile_top.specs.Plan.{volume, entry, in_box, place_of};
-ghost use Rattle.redpile_top.specs.World.{role_of, role_at, readings_at, on_if, stored_value, stored, nothing, state_of, world_circuit, IsWithin, due_in, IsNext, FiresAll, shown_of};
+ghost use Rattle.build.specs.Place.{same_place};
+ghost use Rattle.build.specs.Plan.{volume, entry, in_box, place_of};
+ghost use Rattle.redpile_top.specs.World.{role_of, role_at, readings_at, on_if, stored_value, waiting_at, cell_with, stored, nothing, state_of, world_circuit, IsWithin, due_in, IsNext, FiresAll, shown_of};
 
-use crate::block_table::Block;
-use crate::build::{Build, OutPlace, outputs};
 use crate::power_rules::{Levels, readings};
+use block_table::Block;
+use build::{Build, ClickRefusal, Marks, OutPlace, Pending, outputs};
 use circuit::{Cell, Click, Component, Pos};
 use rp_text::NoMemory;
 use std::alloc::Global;
@@ -25,7 +25,7 @@ fn role(block: Block) -> Option<Component>
         Block::Lever { .. } => Some(Component::Lever),
         Block::Torch { .. } | Block::WallTorch { .. } => Some(Component::Torch),
         Block::Lamp { .. } => Some(Component::Lamp),
-        Block::Air | Block::Inert { .. } => None,
+        _ => None,
     }
 }
 
@@ -235,7 +235,42 @@ fn stored_value(block: Block) -> u8
     match block {
         Block::Torch { lit } | Block::WallTorch { lit, .. } | Block::Lamp { lit } => u8::from(lit),
         Block::Lever { powered, .. } => u8::from(powered),
-        Block::Air | Block::Inert { .. } => 0,
+        _ => 0,
+    }
+}
+
+fn is_at(tick: &Pending, pos: Pos) -> bool
+    ensures { result ≡ same_place tick.now.pos pos }
+{
+    tick.pos == pos
+}
+
+/// The tick that is pending at a place before the start.
+fn waiting_at(ticks: &[Pending], pos: Pos) -> Option<Pending>
+    ensures { result ≡ waiting_at ticks.now pos }
+{
+    for tick in ticks {
+        if is_at(tick, pos) {
+            return Some(*tick);
+        }
+    }
+    None
+}
+
+fn cell_with(value: u8, tick: Option<Pending>) -> Cell
+    ensures { result ≡ cell_with value tick }
+{
+    match tick {
+        Some(tick) => Cell {
+            value,
+            due: u64::from(tick.due),
+            priority: tick.priority,
+        },
+        None => Cell {
+            value,
+            due: 0,
+            priority: 0,
+        },
     }
 }
 
@@ -243,10 +278,14 @@ fn stored_value(block: Block) -> u8
 fn stored(build: &Build, pos: Pos) -> Cell
     ensures { result ≡ stored build.now pos }
 {
-    Cell {
-        value: stored_value(build.at(pos)),
-        due: 0,
-        priority: 0,
+    let block = build.at(pos);
+    match role(block) {
+        Some(_) => cell_with(stored_value(block), waiting_at(build.pending(), pos)),
+        None => Cell {
+            value: 0,
+            due: 0,
+            priority: 0,
+        },
     }
 }
 
@@ -285,10 +324,6 @@ fn view_into(build: &Build, cells: &[Cell], places: &[OutPlace], into: &mut [u8]
     }
 }
 
-/// A place takes no click of this kind.
-#[derive(Clone, Copy, PartialEq, Eq, Debug)]
-pub struct NotClickable;
-
 /// What a place takes of a click, and then all attend.
 fn take_click(
     build: &Build,
@@ -297,7 +332,7 @@ fn take_click(
     next: &mut [Cell],
     pos: Pos,
     click: Click,
-) -> Result<(), NotClickable>
+) -> Result<(), ClickRefusal>
     requires early { time < 2 ^ 63 }
     requires cells_whole { length cells.old ≡ volume build.now }
     requires next_whole { length next.old ≡ volume build.now }
@@ -308,11 +343,11 @@ fn take_click(
     ensures within { IsWithin build.now cells.new }
 {
     match role(build.at(pos)) {
-        None => Err(NotClickable),
+        None => Err(ClickRefusal::NotClickable),
         Some(component) => {
             let cell = cell_at(build, cells, pos);
             match circuit::clicked(component, click, cell.value) {
-                None => Err(NotClickable),
+                None => Err(ClickRefusal::NotClickable),
                 Some(value) => {
                     put(
                         build,
@@ -361,8 +396,8 @@ impl World {
         ensures plan { IfOk result (λ world. world.plan ≡ build.now) }
         ensures start { IfOk result (λ world. state_in world ≡ start (world_circuit build.now)) }
     {
-        let build = build.copy(alloc)?;
-        let places = outputs(alloc, &build)?;
+        let build = build.copy()?;
+        let places = outputs(alloc, &build, &Marks::new(alloc))?;
         let next = stored_cells(alloc, &build)?;
         let mut cells = stored_cells(alloc, &build)?;
         attend_into(&build, 0, &next, &mut cells);
@@ -376,7 +411,7 @@ impl World {
     }
 
     /// One click.
-    pub fn click(&mut self, pos: Pos, click: Click) -> Result<(), NotClickable>
+    pub fn click(&mut self, pos: Pos, click: Click) -> Result<(), ClickRefusal>
         requires { self.old.time < 2 ^ 62 }
         ensures plan { self.new.plan ≡ self.old.plan }
         ensures taken { OnOk result (Clicks (world_circuit self.old.plan) pos click (state_in self.old) (state_in self.new)) }

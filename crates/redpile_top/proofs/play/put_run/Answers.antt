@@ -1,10 +1,10 @@
 use Rattle.std.proofs.Common.{◌≡◌, ◌∷◌, [], refl, sym, ap, subst, ◌∙◌, arith}
 use Rattle.circuit.specs.Shows.{steps_of}
 use Rattle.circuit.specs.Taken.{EachTaken}
-use Rattle.redpile_top.specs.Scripts.{tick_count}
-use Rattle.redpile_top.specs.Scripts.{steps_left}
-use Rattle.redpile_top.specs.Texts.{Moment}
-use Rattle.redpile_top.specs.Plan.{Plan}
+use Rattle.redpile_top.specs.Moments.{tick_count}
+use Rattle.script.specs.StepsLeft.{steps_left}
+use Rattle.redpile_top.specs.Moments.{Moment}
+use Rattle.build.specs.Plan.{Plan}
 use Rattle.redpile_top.specs.Played.{TakenStep}
 use Rattle.redpile_top.specs.World.{world_circuit, state_in}
 use Rattle.redpile_top.proofs.ScriptLaws.{tick_count-steps_of}
@@ -14,26 +14,26 @@ use Rattle.redpile_top.proofs.play.put_run.Goals as goal
 pub returns-in_err-put_all-clause-front : goal.returns-in_err-put_all-clause-front
 returns-in_err-put_all-clause-front g c =
     let b = c.args.world.now.plan in
-    on_err_holds c.from_residual.result _ (stopped_header b c.args.script.now _ c.args.header.now _ c.requires.header (script_taken b c.args.script.now c.requires.script) c.in_err-put_all.ensures.front)
+    on_err_holds c.from_residual.result _ (stopped_header b c.args.script.now.acts _ c.args.header.now _ c.requires.header (script_taken b c.args.script.now.acts c.requires.script) c.in_err-put_all.ensures.front)
 
 pub returns-in_err-put_view-clause-front : goal.returns-in_err-put_view-clause-front
 returns-in_err-put_view-clause-front g c =
     let b = c.args.world.now.plan in
     on_err_holds c.from_residual-in_err-put_view.result _
-    (stopped_begins b c.args.script.now _ c.args.header.now c.args.world.now.time (state_in c.args.world.now) _ _ c.requires.header c.requires.time c.requires.start (script_taken b c.args.script.now c.requires.script)
+    (stopped_begins b c.args.script.now.acts _ c.args.header.now c.args.world.now.time (state_in c.args.world.now) _ _ c.requires.header c.requires.time c.requires.start (script_taken b c.args.script.now.acts c.requires.script)
     c.in_ok-put_all.ensures.all c.in_err-put_view.ensures.front)
 
 pub loop-step-init : goal.loop-step-init
 loop-step-init g c =
     let b = c.args.world.now.plan in
-    let left : steps_left c.into_iter-step-iterator.result ≡ steps_of c.args.script.now = cc in
+    let left : steps_left c.into_iter-step-iterator.result ≡ steps_of c.args.script.now.acts = cc in
     record {
       plan = refl;
-      going = going_begins b c.args.script.now (g.O.Sink.written c.args.out.now) c.args.header.now c.args.world.now.time (state_in c.args.world.now) _ (g.O.Sink.written c.put_all.new.sink) (g.O.Sink.written c.put_view.new.out)
+      going = going_begins b c.args.script.now.acts (g.O.Sink.written c.args.out.now) c.args.header.now c.args.world.now.time (state_in c.args.world.now) _ (g.O.Sink.written c.put_all.new.sink) (g.O.Sink.written c.put_view.new.out)
           c.requires.header c.requires.time c.requires.start left c.in_ok-put_all.ensures.all c.in_ok-put_view.ensures.all;
-      taken = subst (EachTaken (world_circuit b)) (sym left) (script_taken b c.args.script.now c.requires.script);
+      taken = subst (EachTaken (world_circuit b)) (sym left) (script_taken b c.args.script.now.acts c.requires.script);
       later = omega (arith, c.in_ok-put_all.ensures.cause.later, c.in_ok-put_view.ensures.cause.later);
-      early = omega (arith, c.requires.time, ap tick_count left, tick_count-steps_of c.args.script.now, c.steps-step-items.ensures.short.few_ticks);
+      early = omega (arith, c.requires.time, ap tick_count left, tick_count-steps_of c.args.script.now.acts, c.steps-step-items.ensures.short.few_ticks);
       values = c.put_view.auto.values ∙ c.requires.values;
       room = omega (arith, c.in_ok-put_view.ensures.room, c.put_view.auto.values, c.requires.room);
     }
@@ -52,7 +52,7 @@ loop-step-preserved g c =
     let taken = subst (EachTaken (world_circuit b)) left inv.taken in
     record {
       plan = c.take_step-cause.ensures.plan ∙ inv.plan;
-      going = going_steps b c.args.script.now _ c.loop-step.world c.take_step-cause.new.world c.in-Some.step c.take_step-cause.result inv.plan c.take_step-cause.ensures.plan c.take_step-cause.ensures.step c.take_step-cause.ensures.moment
+      going = going_steps b c.args.script.now.acts _ c.loop-step.world c.take_step-cause.new.world c.in-Some.step c.take_step-cause.result inv.plan c.take_step-cause.ensures.plan c.take_step-cause.ensures.step c.take_step-cause.ensures.moment
           (g.O.Sink.written c.loop-step.out) (g.O.Sink.written c.put_view-in-loop-step.new.out) (steps_left c.loop-step.step-iterator) (steps_left c.next.new.self) inv.going left c.in_ok-put_view-2.ensures.all;
       taken = taken_after (world_circuit b) c.in-Some.step (steps_left c.next.new.self) taken;
       later = omega (arith, inv.later, c.in_ok-put_view-2.ensures.cause.later);
@@ -68,7 +68,7 @@ returns-in_err-put_view-2-clause-front g c =
     let inv = c.loop-step.invariant in
     let taken = subst (EachTaken (world_circuit b)) left inv.taken in
     on_err_holds c.from_residual-in_err-put_view-2.result _
-    (stopped_steps b c.args.script.now _ c.loop-step.world c.take_step-cause.new.world c.in-Some.step c.take_step-cause.result inv.plan c.take_step-cause.ensures.plan c.take_step-cause.ensures.step c.take_step-cause.ensures.moment
+    (stopped_steps b c.args.script.now.acts _ c.loop-step.world c.take_step-cause.new.world c.in-Some.step c.take_step-cause.result inv.plan c.take_step-cause.ensures.plan c.take_step-cause.ensures.step c.take_step-cause.ensures.moment
     (g.O.Sink.written c.loop-step.out) (g.O.Sink.written c.put_view-in-loop-step.new.out) (steps_left c.loop-step.step-iterator) (steps_left c.next.new.self) inv.going left
     (taken_after (world_circuit b) c.in-Some.step (steps_left c.next.new.self) taken) c.in_err-put_view-2.ensures.front)
 
@@ -76,12 +76,12 @@ pub returns-clause-done : goal.returns-clause-done
 returns-clause-done g c =
     let none : steps_left c.loop-step.step-iterator ≡ [] = c.in-None.ensures.steps.0 in
     on_ok_then c.put_trailer.result _ _
-    (ended_steps c.args.world.now.plan c.args.script.now _ (g.O.Sink.written c.loop-step.out) (g.O.Sink.written c.put_trailer.new.out) c.loop-step.world.time (state_in c.loop-step.world) (steps_left c.loop-step.step-iterator) c.loop-step.invariant.going none)
+    (ended_steps c.args.world.now.plan c.args.script.now.acts _ (g.O.Sink.written c.loop-step.out) (g.O.Sink.written c.put_trailer.new.out) c.loop-step.world.time (state_in c.loop-step.world) (steps_left c.loop-step.step-iterator) c.loop-step.invariant.going none)
     c.put_trailer.ensures.all
 
 pub returns-clause-front : goal.returns-clause-front
 returns-clause-front g c =
     let none : steps_left c.loop-step.step-iterator ≡ [] = c.in-None.ensures.steps.0 in
     on_err_then c.put_trailer.result _ _
-    (stopped_trailer c.args.world.now.plan c.args.script.now _ (g.O.Sink.written c.loop-step.out) (g.O.Sink.written c.put_trailer.new.out) c.loop-step.world.time (state_in c.loop-step.world) (steps_left c.loop-step.step-iterator) c.loop-step.invariant.going none)
+    (stopped_trailer c.args.world.now.plan c.args.script.now.acts _ (g.O.Sink.written c.loop-step.out) (g.O.Sink.written c.put_trailer.new.out) c.loop-step.world.time (state_in c.loop-step.world) (steps_left c.loop-step.step-iterator) c.loop-step.invariant.going none)
     c.put_trailer.ensures.front

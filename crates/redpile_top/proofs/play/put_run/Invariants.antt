@@ -1,7 +1,7 @@
 use Rattle.std.proofs.Common.{◌≡◌, ◌≤◌, ◌+◌, ◌*◌, length}
 use Rattle.circuit.specs.Taken.{EachTaken}
-use Rattle.redpile_top.specs.Scripts.{tick_count}
-use Rattle.redpile_top.specs.Scripts.{steps_left}
+use Rattle.redpile_top.specs.Moments.{tick_count}
+use Rattle.script.specs.StepsLeft.{steps_left}
 use Rattle.redpile_top.specs.World.{world_circuit, state_in}
 use Rattle.redpile_top.proofs.Going.{Going}
 use Rattle.redpile_top.proofs.play.put_run.Given as goal
@@ -9,7 +9,7 @@ use Rattle.redpile_top.proofs.play.put_run.Given as goal
 abbrev pub invariant-loop-step : goal.invariant-loop-step
 invariant-loop-step g l = record {
   plan : l.world.plan ≡ l.fn.world.plan;
-  going : Going l.fn.world.plan l.script (g.O.Sink.written l.fn.out) (g.O.Sink.written l.out) l.world.time (state_in l.world) (steps_left l.step-iterator);
+  going : Going l.fn.world.plan l.script.acts (g.O.Sink.written l.fn.out) (g.O.Sink.written l.out) l.world.time (state_in l.world) (steps_left l.step-iterator);
   taken : EachTaken (world_circuit l.fn.world.plan) (steps_left l.step-iterator);
   later : g.O.Sink.faults l.fn.out ≤ g.O.Sink.faults l.out;
   early : l.world.time + tick_count (steps_left l.step-iterator) ≤ 100000;

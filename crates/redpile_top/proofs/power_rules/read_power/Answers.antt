@@ -1,4 +1,4 @@
-use Rattle.redpile_top.proofs.Near.{near_next}
+use Rattle.build.specs.Near.{near_next}
 use Rattle.redpile_top.proofs.power_rules.read_power.Goals as goal
 
 pub charge-requires : goal.charge-requires

@@ -1,8 +1,8 @@
 use Rattle.std.proofs.Common.{◌≡◌, ◌<◌, sym, ap, ◌∙◌, subst, arith, true, length, get_or}
 use Rattle.circuit.specs.declared.Pos.{Pos}
 use Rattle.circuit.specs.Circuit.{outs, attended_at}
-use Rattle.redpile_top.specs.Plan.{in_box, volume}
-use Rattle.redpile_top.specs.Places.{place_inside}
+use Rattle.build.specs.Plan.{in_box, volume}
+use Rattle.build.specs.Places.{place_inside}
 use Rattle.redpile_top.specs.World.{role_at, world_circuit, state_of, nothing}
 use Rattle.redpile_top.proofs.Held.{attend_step, all-attended}
 use Rattle.redpile_top.proofs.world_engine.attend_into.Goals as goal

@@ -1,5 +1,5 @@
 use Rattle.redpile_top.specs.World.{nothing}
-use Rattle.redpile_top.specs.Places.{entry-some, entry-none}
+use Rattle.build.specs.Places.{entry-some, entry-none}
 use Rattle.redpile_top.proofs.world_engine.cell_at.Goals as goal
 
 pub returns-in-Some : goal.returns-in-Some

@@ -1,8 +1,8 @@
 use Rattle.std.proofs.Common.{◌≡◌, true, sym, ap, subst, ◌∙◌}
 use Rattle.circuit.specs.declared.Pos.{Pos}
 use Rattle.circuit.specs.Circuit.{fire}
-use Rattle.redpile_top.specs.Plan.{in_box}
-use Rattle.redpile_top.specs.Places.{place_inside}
+use Rattle.build.specs.Plan.{in_box}
+use Rattle.build.specs.Places.{place_inside}
 use Rattle.redpile_top.specs.World.{world_circuit, state_of}
 use Rattle.redpile_top.proofs.Due.{fires_start, fires_next, fires_end, firing_lowers}
 use Rattle.redpile_top.proofs.world_engine.fire_due.Goals as goal

@@ -1,6 +1,6 @@
 use Rattle.std.proofs.Common.{ℕ, ap, ◌∙◌, set}
-use Rattle.redpile_top.specs.Plan.{cell_of}
-use Rattle.redpile_top.specs.Places.{found-cell_of, found_inside}
+use Rattle.build.specs.Plan.{cell_of}
+use Rattle.build.specs.Places.{found-cell_of, found_inside}
 use Rattle.redpile_top.specs.World.{state_of}
 use Rattle.redpile_top.proofs.Held.{one-put}
 use Rattle.redpile_top.proofs.world_engine.put.Goals as goal

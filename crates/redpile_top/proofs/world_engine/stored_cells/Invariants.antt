@@ -1,5 +1,5 @@
 use Rattle.std.proofs.Common.{◌≡◌, ◌<◌, ℕ, length, get_or}
-use Rattle.redpile_top.specs.Plan.{place_of}
+use Rattle.build.specs.Plan.{place_of}
 use Rattle.redpile_top.specs.World.{nothing, stored}
 use Rattle.redpile_top.proofs.world_engine.stored_cells.Given as goal
 

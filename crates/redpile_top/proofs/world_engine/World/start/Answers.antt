@@ -4,6 +4,7 @@ use Rattle.std.proofs.Common.{length, ◌≡◌, List, sym, ap, subst, ◌∙◌
 use Rattle.circuit.specs.declared.Cell.{Cell}
 use Rattle.circuit.specs.Circuit.{attend}
 use Rattle.redpile_top.specs.World.{IsWithin, state_of, world_circuit}
+use Rattle.build.specs.Outputs as marked
 use Rattle.redpile_top.proofs.Within.{within_start, within_attended}
 use Rattle.redpile_top.proofs.world_engine.World.start.Goals as goal
 
@@ -21,6 +22,6 @@ invariant_of-result c =
     record {
       cells_whole = ap (λ (ps : List Cell). length ps) cells ∙ c.attend_into.auto.next ∙ ap (λ (ps : List Cell). length ps) c.deref_mut.ensures.value ∙ c.in_ok-cells.ensures.whole;
       next_whole = c.in_ok-next.ensures.whole;
-      shown = c.in_ok-places.ensures;
+      shown = c.in_ok-places.ensures ∙ ap (marked.outputs b) c.new.ensures;
       within = subst (IsWithin b) (sym cells) (within_attended b 0 c.in_ok-next.next.items c.attend_into.new.next first attended);
     }

@@ -1,7 +1,7 @@
 use Rattle.std.proofs.Common.{◌≤◌, List, map, ap, ◌∙◌}
 use Rattle.circuit.specs.declared.Cell.{Cell}
 use Rattle.circuit.specs.Circuit.{view}
-use Rattle.redpile_top.specs.declared.build.OutPlace.{OutPlace}
+use Rattle.build.specs.declared.OutPlace.{OutPlace}
 use Rattle.redpile_top.specs.World.{Running, world_circuit, state_in, shown_of}
 use Rattle.std.proofs.lemmas.List.Elements.{All-same}
 use Rattle.redpile_top.proofs.Shown.{view-shown}

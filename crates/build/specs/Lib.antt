@@ -1,0 +1,13 @@
+pub mod Place
+pub mod SamePlace
+pub mod Plan
+pub mod Coordinate
+pub mod Places
+pub mod Near
+pub mod Edits
+pub mod Stored
+pub mod Marks
+pub mod MarkKeys
+pub mod Outputs
+pub use Rattle.block_table.specs.Facts
+pub use Rattle.block_table.specs.WrittenText

@@ -1,0 +1,10 @@
+pub mod NodeSteps
+pub mod Parts
+pub mod GroupSteps
+pub mod EditSteps
+pub mod ClickSteps
+pub mod TextSteps
+pub mod ListedSteps
+pub mod BoundSteps
+pub mod RefineSteps
+pub mod Rows

@@ -1,0 +1,186 @@
+//! Edits of one node, and of the links of all nodes.
+
+ghost use Rattle.std.specs.Prelude.{◌≡◌, ◌+◌, ◌<◌, ◌≤◌, ◌^◌, [], ◌∷◌, ◌++◌, List, length, map, insert, count_by, OnOk, OnErr, IfOk, option_map};
+ghost use Rattle.graph.specs.declared.Group.TheVariants.{Back as BackGroup};
+ghost use Rattle.graph.specs.declared.Link.{Link};
+ghost use Rattle.graph.specs.Links.{in_groups, of_group};
+ghost use Rattle.graph.specs.Stored.{plain, plain_nodes};
+ghost use Rattle.graph.specs.Edits.{change, with_link, without_link, folded, renamed, renamed_link, drop_set};
+
+use crate::{Group, Kind, Link, Links, Node, NodeKey, OfNodes, Places, Pos};
+use node_arena::{Arena, Key};
+use rp_text::NoMemory;
+
+// No node has more links, so that the links of a graph can be counted.
+const MOST_LINKS: usize = 0x1_0000_0000;
+
+impl Links {
+    // Puts a link in: a Back link behind the last Back link, a Side link behind all.
+    fn add(&mut self, link: Link) -> Result<(), NoMemory>
+        requires groups { in_groups self.old.items ≡ self.old.items }
+        requires few { length self.old.items ≤ 2 ^ 32 }
+        ensures items { OnOk result (self.new.items ≡ in_groups (self.old.items ++ link ∷ [])) }
+        ensures room { OnOk result (0 < self.old.spare → self.new.spare + 1 ≡ self.old.spare) }
+        ensures few { OnOk result (length self.old.items < 2 ^ 32) }
+        ensures err { OnErr result (self.new ≡ self.old) }
+        ensures full { OnErr result (self.old.spare ≡ 0) }
+    {
+        if self.items.len() >= MOST_LINKS {
+            return Err(NoMemory);
+        }
+        let place = place_for(&self.items, link.group);
+        self.items.insert(place, link)?;
+        Ok(())
+    }
+
+    // Makes room for so many more links.
+    fn reserve(&mut self, more: u32) -> Result<(), NoMemory>
+        requires few { length self.old.items ≤ 2 ^ 32 }
+        ensures items { self.new.items ≡ self.old.items }
+        ensures ok { OnOk result (more ≤ self.new.spare) }
+        ensures grows { self.old.spare ≤ self.new.spare }
+        ensures err { OnErr result (self.new ≡ self.old) }
+        ensures full { OnErr result (self.old.spare < more) }
+    {
+        if more as usize > MOST_LINKS - self.items.len() {
+            return Err(NoMemory);
+        }
+        self.items.reserve(more as usize)?;
+        Ok(())
+    }
+
+    // Each link from `gone` comes from `keep`.
+    fn rename(&mut self, keep: NodeKey, gone: NodeKey)
+        ensures items { self.new.items ≡ map (renamed_link keep gone) self.old.items }
+        ensures room { self.new.spare ≡ self.old.spare }
+    {
+        rename_links(self.items.as_mut_slice(), keep, gone);
+    }
+}
+
+// Where a new link of the group goes in.
+fn place_for(links: &[Link], group: Group) -> usize
+    requires { in_groups links.now ≡ links.now }
+    ensures within { result ≤ length links.now }
+    ensures put { (link : Link) → link.group ≡ group
+        → insert links.now result link ≡ in_groups (links.now ++ link ∷ []) }
+{
+    match group {
+        Group::Back => count_of_back_links(links),
+        Group::Side => links.len(),
+    }
+}
+
+fn count_of_back_links(links: &[Link]) -> usize
+    ensures { result ≡ count_by (of_group BackGroup) links.now }
+{
+    links
+        .iter()
+        .filter(|link| link.group == Group::Back)
+        .count()
+}
+
+fn rename_links(links: &mut [Link], keep: NodeKey, gone: NodeKey)
+    ensures { links.new ≡ map (renamed_link keep gone) links.old }
+{
+    for link in links.iter_mut() {
+        *link = renamed_link(*link, keep, gone);
+    }
+}
+
+fn renamed_link(link: Link, keep: NodeKey, gone: NodeKey) -> Link
+    ensures { result ≡ renamed_link keep gone link }
+{
+    let from = if link.from == gone { keep } else { link.from };
+    Link { from, ..link }
+}
+
+impl Node {
+    // Puts a link to the node in. It succeeds where there is room.
+    pub fn add_link(&mut self, link: Link) -> Result<(), NoMemory>
+        requires groups { in_groups self.old.links.items ≡ self.old.links.items }
+        requires few { length self.old.links.items ≤ 2 ^ 32 }
+        ensures plain { OnOk result (plain self.new ≡ with_link link (plain self.old)) }
+        ensures room { OnOk result (0 < self.old.links.spare → self.new.links.spare + 1 ≡ self.old.links.spare) }
+        ensures few { OnOk result (length self.old.links.items < 2 ^ 32) }
+        ensures err { OnErr result (self.new ≡ self.old) }
+        ensures full { OnErr result (self.old.links.spare ≡ 0) }
+    {
+        self.links.add(link)
+    }
+
+    // Makes room for so many more links.
+    pub fn reserve_links(&mut self, more: u32) -> Result<(), NoMemory>
+        requires few { length self.old.links.items ≤ 2 ^ 32 }
+        ensures plain { plain self.new ≡ plain self.old }
+        ensures ok { OnOk result (more ≤ self.new.links.spare) }
+        ensures grows { self.old.links.spare ≤ self.new.links.spare }
+        ensures err { OnErr result (self.new ≡ self.old) }
+        ensures full { OnErr result (self.old.links.spare < more) }
+    {
+        self.links.reserve(more)
+    }
+
+    pub fn drop_link(&mut self, index: usize)
+        requires { index < length self.old.links.items }
+        ensures { plain self.new ≡ without_link index (plain self.old) }
+    {
+        let links = &mut self.links;
+        links.items.remove(index);
+    }
+
+    pub fn fold_to(&mut self, value: u8)
+        ensures { plain self.new ≡ folded value (plain self.old) }
+    {
+        self.kind = Kind::Constant;
+        self.state = value;
+        self.due = 0;
+        self.priority = 0;
+        let links = &mut self.links;
+        links.items.clear();
+    }
+
+    // Each link from `gone` comes from `keep`.
+    fn rename(&mut self, keep: NodeKey, gone: NodeKey)
+        ensures plain { plain self.new ≡ renamed keep gone (plain self.old) }
+        ensures room { self.new.links.spare ≡ self.old.links.spare }
+    {
+        self.links.rename(keep, gone);
+    }
+
+    // The places that the node stands for besides its own, then those of the other one.
+    pub fn places_with(&self, other: &Node) -> Result<Places, NoMemory>
+        ensures { IfOk result (λ places. places.items.items ≡ self.now.also.items.items ++ other.now.pos ∷ other.now.also.items.items) }
+    {
+        let mut places = Vec::from_slice(*self.also.items.allocator(), &self.also.items)?;
+        places.push(other.pos)?;
+        places.extend_from_slice(&other.also.items)?;
+        Ok(Places { items: places })
+    }
+}
+
+// In all nodes each link from `gone` comes from `keep`.
+pub fn rename_in_all(nodes: &mut Arena<OfNodes, Node>, keep: NodeKey, gone: NodeKey)
+    ensures { plain_nodes nodes.new.entries ≡ map (option_map (renamed keep gone)) (plain_nodes nodes.old.entries) }
+{
+    for number in 0..nodes.made() {
+        rename_at(nodes, Key::new(number), keep, gone);
+    }
+}
+
+fn rename_at(nodes: &mut Arena<OfNodes, Node>, key: NodeKey, keep: NodeKey, gone: NodeKey)
+    ensures { plain_nodes nodes.new.entries ≡ change (renamed keep gone) (plain_nodes nodes.old.entries) key }
+{
+    if let Some(node) = nodes.get_mut(key) {
+        node.rename(keep, gone);
+    }
+}
+
+// Drops the nodes under these keys.
+pub fn drop_all(nodes: &mut Arena<OfNodes, Node>, keys: &[NodeKey])
+    ensures { plain_nodes nodes.new.entries ≡ drop_set (plain_nodes nodes.old.entries) keys.now }
+{
+    for key in keys {
+        nodes.remove(*key);
+    }
+}

@@ -1,0 +1,6 @@
+-- No step was taken.
+use Rattle.pass_frame.specs.Frame.{Stays}
+use Rattle.pass_frame.proofs.tests.StarvedPass.run.Goals as goal
+
+pub returns : goal.returns
+returns c = Stays

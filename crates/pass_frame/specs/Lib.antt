@@ -1,0 +1,6 @@
+pub use Rattle.graph.specs.Graph
+pub use Rattle.graph.specs.Measure
+pub use Rattle.graph.specs.Refines
+pub use Rattle.graph.specs.Sound
+pub mod Frame
+pub mod EitherLaws

@@ -1,0 +1,7 @@
+pub mod RoomyText
+pub mod PlaceText
+pub mod Header
+pub mod ViewLine
+pub mod Trailers
+pub mod FireLine
+pub mod FaultLine

@@ -1,0 +1,12 @@
+pub mod Names
+pub mod Views
+pub mod Varints
+pub mod Causes
+pub mod Numbered
+pub mod Counting
+pub mod Fives
+pub mod Levels
+pub mod Firsts
+pub mod States
+pub mod Standing
+pub mod Verdicts

@@ -1,0 +1,4 @@
+mod FitLines
+mod FirstBad
+mod ReadLines
+mod ScriptRows

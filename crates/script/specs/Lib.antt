@@ -1,0 +1,11 @@
+pub mod Acts
+pub mod Clickable
+pub mod ClickedPlaces
+pub mod LineSaid
+pub mod Scripts
+pub mod Fit
+pub mod StepsLeft
+pub use Rattle.build.specs.Marks
+pub use Rattle.build.specs.Plan
+pub use Rattle.circuit.specs.Shows
+pub use Rattle.circuit.specs.Taken
