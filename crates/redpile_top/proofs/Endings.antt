@@ -1,17 +1,14 @@
 -- What an ending says of the status that it gives.
-use Rattle.std.proofs.Common.{◌≡◌, ◌⊎◌, ◌≤◌, ◌<◌, inl, inr, ℕ, Bool, true, false, List, length, refl, sym, ap, subst, ◌∙◌, arith, Option, Some, None, Result, Ok, Err, OnOk, OnErr}
+use Rattle.std.proofs.Common.{◌≡◌, ◌⊎◌, ◌≤◌, inl, inr, ℕ, true, false, List, length, refl, sym, ap, subst, ◌∙◌, arith, Option, Some, None, Result, Ok, Err, OnOk, OnErr}
 use Rattle.std.proofs.lemmas.Bool.{cases_Bool}
 use Rattle.build.specs.Plan.{Plan}
-use Rattle.schematic.specs.File.{Refusal, compressed, nbt, missing_field, wrong_field, wrong_version, too_large, palette_clash, wrong_cells, unknown_block, wrong_signal, wrong_pending, file, is_own, plain_refusal, IsFirstRefusal}
+use Rattle.schematic.specs.File.{Refusal, unknown_block, file, is_own, plain_refusal, IsFirstRefusal}
 use Rattle.schematic.proofs.Verdicts.{same_build, not_both, one_cause}
 use Rattle.script.specs.declared.ScriptKind.{ScriptKind}
 use Rattle.script.specs.declared.ScriptRefusal.{ScriptRefusal}
 use Rattle.script.specs.declared.ScriptRefusal.TheVariants.{Line, NoMemory as NoMemoryOfScript}
 use Rattle.script.specs.Acts.{Meaning}
-use Rattle.script.specs.Clickable.{takes_click, is_wire_at}
-use Rattle.script.specs.Scripts.{script_of}
-use Rattle.report.specs.declared.Fault.{Fault}
-use Rattle.report.specs.declared.Fault.TheVariants.{Usage as UsageFault, Read, Write, Build as BuildFault, BuildTooLong, Script as ScriptFault, ScriptTooLong, Memory, Order, OrderTooLong, Graph, GraphTooLong}
+use Rattle.report.specs.declared.Fault.TheVariants.{Usage as UsageFault, Read, Write, Build as BuildFault, BuildTooLong, Script as ScriptFault, ScriptTooLong, Memory, Graph}
 use Rattle.report.specs.declared.GraphRefusal.{GraphRefusal}
 use Rattle.report.specs.declared.GraphRefusal.TheVariants.{NoMemory as NoMemoryOfGraph}
 use Rattle.rp_io.specs.Causes.{Rose, HasCause, Wrote, WrotePrefix}
@@ -22,7 +19,7 @@ use Rattle.redpile_top.specs.declared.status.Status.TheVariants.{Done, Usage, Re
 use Rattle.redpile_top.specs.declared.status.Stop.{Stop}
 use Rattle.redpile_top.specs.declared.status.Stop.TheVariants.{Told as ToldStop, NotYet}
 use Rattle.redpile_top.specs.Playable.{IsPlayable, HasUnplayable}
-use Rattle.redpile_top.specs.Clauses.{Told, word, Ran, IsBuild, is_block, IsBadBuild, HasCauseButBlock, IsNotYet, IsBadBlock, IsScript, HasBadLine, IsBadScript, IsBadScriptFor, BuildCause, ScriptCause, Exactly, BuildClause, BlockClause, ScriptClause, CompleteClause, CauseOf, status_of, status_of_cause, status_of_script, status_of_graph}
+use Rattle.redpile_top.specs.Clauses.{Told, word, Ran, IsBuild, is_block, IsBadBuild, IsNotYet, IsBadBlock, IsScript, IsBadScript, IsBadScriptFor, BuildCause, ScriptCause, Exactly, BuildClause, BlockClause, ScriptClause, CompleteClause, CauseOf, status_of, status_of_cause, status_of_script, status_of_graph}
 
 -- ---- what excludes what
 

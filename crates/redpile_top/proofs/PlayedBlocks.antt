@@ -1,5 +1,5 @@
 -- Blocks that are played, cell by cell.
-use Rattle.std.proofs.Common.{◌≡◌, ◌<◌, ℕ, true, refl, sym, ap, ◌∙◌, subst, inl, inr}
+use Rattle.std.proofs.Common.{◌≡◌, ◌<◌, ℕ, true, ap, subst, inl, inr}
 use Rattle.std.proofs.lemmas.Bool.{cases_Bool}
 use Rattle.circuit.specs.declared.Pos.{Pos}
 use Rattle.block_table.specs.declared.Block.TheVariants.{Air}

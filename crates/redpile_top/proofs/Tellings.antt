@@ -1,7 +1,7 @@
 -- What a refusal tells of the files that were read.
-use Rattle.std.proofs.Common.{◌≡◌, ◌≤◌, ◌<◌, List, ℕ, Bool, true, length, Option, Some, None, Result, Ok, Err, IfErr, refl, sym, ap, subst, ◌∙◌, arith}
+use Rattle.std.proofs.Common.{◌≡◌, ◌≤◌, ◌<◌, List, ℕ, Bool, true, length, Option, Some, None, Result, Err, IfErr, sym, ap, subst, ◌∙◌}
 use Rattle.build.specs.Plan.{Plan}
-use Rattle.schematic.specs.File.{Refusal, file, plain_refusal, IsFirstRefusal, Refuses as RefusesBuild}
+use Rattle.schematic.specs.File.{Refusal, file, IsFirstRefusal, Refuses as RefusesBuild}
 use Rattle.redpile_top.specs.Playable.{Playing}
 use Rattle.script.specs.declared.ScriptRefusal.{ScriptRefusal}
 use Rattle.script.specs.declared.ScriptRefusal.TheVariants.{Line, NoMemory as NoMemoryOfScript}

@@ -1,5 +1,5 @@
 -- What a command writes of the runs of a build.
-use Rattle.std.specs.Prelude.{◌≡◌, ℕ, List, Option, Some}
+use Rattle.std.specs.Prelude.{ℕ, List, Option}
 use Rattle.circuit.specs.declared.Act.{Act}
 use Rattle.circuit.specs.declared.Step.{Step}
 use Rattle.circuit.specs.declared.Step.TheVariants.{Click as ClickAt, Tick as OneTick}

@@ -145,12 +145,7 @@ pub fn readings<L: Levels>(build: &Build, levels: &L, pos: Pos) -> Readings
 {
     let back = match build.at(pos) {
         Block::Torch { .. } => read_power(build, levels, pos, Side::Down),
-        Block::WallTorch { facing, .. } => read_power(
-            build,
-            levels,
-            pos,
-            opposite(facing),
-        ),
+        Block::WallTorch { facing, .. } => read_power(build, levels, pos, opposite(facing)),
         Block::Lamp { .. } => read_around(build, levels, pos),
         _ => 0,
     };

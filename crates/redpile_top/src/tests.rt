@@ -186,10 +186,7 @@ fn empty_box(rt: HostRuntime) -> Result<(), Fail> {
     assert_eq!(rt; EMPTY_BOX.len(), 86);
     let outcome = world(alloc, EMPTY_BOX, b"tick 1", NONE)?;
     assert_eq!(rt; outcome.status, Status::Done);
-    assert_eq!(rt;
-        outcome.out.as_slice(),
-        EMPTY_TEXT
-    );
+    assert_eq!(rt; outcome.out.as_slice(), EMPTY_TEXT);
     assert_eq!(rt; outcome.err.len(), 0);
     Ok(())
 }
@@ -442,7 +439,10 @@ fn not_yet(rt: HostRuntime) -> Result<(), Fail> {
     let alloc = rt.alloc();
     for text in ["redstone_wire", "repeater", "comparator", "iron_trapdoor"] {
         let file = row_of(alloc, &[LEVER, text])?;
-        assert!(rt; is_bad(alloc, &file, b"redpile: build: not yet\n")?, "{text}");
+        assert!(rt;
+            is_bad(alloc, &file, b"redpile: build: not yet\n")?,
+            "{text}"
+        );
     }
     Ok(())
 }
@@ -488,14 +488,32 @@ fn hostile_nbt(rt: HostRuntime) -> Result<(), Fail> {
     let deepest = nested(alloc, 512)?;
     assert!(rt; is_bad(alloc, &deepest, b"redpile: build: missing Version\n")?);
     let rows: [(&[u8], &[u8]); 8] = [
-        (b"\x0a\x00\x00\x07\x00\x01a\xff\xff\xff\xff\x00", b"redpile: build: nbt bad length at 7\n"),
+        (
+            b"\x0a\x00\x00\x07\x00\x01a\xff\xff\xff\xff\x00",
+            b"redpile: build: nbt bad length at 7\n",
+        ),
         (b"\x0a\x00\x00\x0d", b"redpile: build: nbt bad type at 3\n"),
         (b"\x01", b"redpile: build: nbt root not compound at 0\n"),
-        (b"\x0a\x00\x00\x07\x00\x01a\x7f\xff\xff\xff\x00", b"redpile: build: nbt truncated at 12\n"),
-        (b"\x0a\x00\x00\x09\x00\x01a\x0d\x00\x00\x00\x01", b"redpile: build: nbt bad type at 7\n"),
-        (b"\x0a\x00\x00\x09\x00\x01a\x00\x00\x00\x00\x01\x00", b"redpile: build: nbt bad length at 8\n"),
-        (b"\x0a\x00\x00\x09\x00\x01a\x00\xff\xff\xff\xff\x00", b"redpile: build: missing Version\n"),
-        (b"\x0a\x00\x00\x0c\x00\x01a\xff\xff\xff\xff", b"redpile: build: nbt bad length at 7\n"),
+        (
+            b"\x0a\x00\x00\x07\x00\x01a\x7f\xff\xff\xff\x00",
+            b"redpile: build: nbt truncated at 12\n",
+        ),
+        (
+            b"\x0a\x00\x00\x09\x00\x01a\x0d\x00\x00\x00\x01",
+            b"redpile: build: nbt bad type at 7\n",
+        ),
+        (
+            b"\x0a\x00\x00\x09\x00\x01a\x00\x00\x00\x00\x01\x00",
+            b"redpile: build: nbt bad length at 8\n",
+        ),
+        (
+            b"\x0a\x00\x00\x09\x00\x01a\x00\xff\xff\xff\xff\x00",
+            b"redpile: build: missing Version\n",
+        ),
+        (
+            b"\x0a\x00\x00\x0c\x00\x01a\xff\xff\xff\xff",
+            b"redpile: build: nbt bad length at 7\n",
+        ),
     ];
     for (file, line) in rows {
         assert!(rt; is_bad(alloc, file, line)?, "{file:?}");
@@ -577,9 +595,7 @@ fn signal_out_of_range(rt: HostRuntime) -> Result<(), Fail> {
 /// The file of a lever and a lamp with one pending tick.
 fn pending(alloc: Global, tick: [i32; 5]) -> Result<Vec<u8>, Fail> {
     let mut file = row_fields(alloc, &[LEVER, STONE, LAMP])?;
-    file.extend_from_slice(
-        b"\x0a\x00\x08Metadata\x0b\x00\x0eRedpilePending\x00\x00\x00\x05",
-    )?;
+    file.extend_from_slice(b"\x0a\x00\x08Metadata\x0b\x00\x0eRedpilePending\x00\x00\x00\x05")?;
     for number in tick {
         file.extend_from_slice(&number.to_be_bytes())?;
     }
@@ -615,12 +631,18 @@ fn is_bad_script(alloc: Global, text: &[u8], line: &[u8]) -> Result<bool, Fail> 
 fn bad_scripts(rt: HostRuntime) -> Result<(), Fail> {
     let alloc = rt.alloc();
     let rows: [(&[u8], &[u8]); 8] = [
-        (b"use 0 0 0\ntick 1\nuse 1 0 0\n", b"redpile: script: line 3 not clickable\n"),
+        (
+            b"use 0 0 0\ntick 1\nuse 1 0 0\n",
+            b"redpile: script: line 3 not clickable\n",
+        ),
         (b"tick 100001", b"redpile: script: line 1 too many ticks\n"),
         (b"mark 1 0 0", b"redpile: script: line 1 not wire\n"),
         (b"tick 01", b"redpile: script: line 1 number\n"),
         (b"jump", b"redpile: script: line 1 word\n"),
-        (b"use 4294967295 0 0", b"redpile: script: line 1 not clickable\n"),
+        (
+            b"use 4294967295 0 0",
+            b"redpile: script: line 1 not clickable\n",
+        ),
         (b"use 4294967296 0 0", b"redpile: script: line 1 number\n"),
         (b"tick 1\r\r\n", b"redpile: script: line 1 number\n"),
     ];

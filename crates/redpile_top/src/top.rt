@@ -181,11 +181,7 @@ fn put_constant<E: Sink>(err: &mut E, stop: &Stop) -> Result<(), WriteFault>
 }
 
 /// Writes the line of a stop, in this room if there is any.
-fn put_stop<E: Sink>(
-    err: &mut E,
-    room: Option<LineBuf>,
-    stop: &Stop,
-) -> Result<(), WriteFault>
+fn put_stop<E: Sink>(err: &mut E, room: Option<LineBuf>, stop: &Stop) -> Result<(), WriteFault>
     requires { MatchOption room (IsConstantStop stop.now) (λ line. line ≡ empty_text 128) }
     ensures all { OnOk result (Wrote (E.written err.old) (E.written err.new) (stop_line stop.now)) }
     ensures front { OnErr result (WrotePrefix (E.written err.old) (E.written err.new) (stop_line stop.now)) }

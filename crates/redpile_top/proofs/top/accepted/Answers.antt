@@ -1,4 +1,4 @@
-use Rattle.std.proofs.Common.{Err, ◌≤◌, ℕ, List, length, refl, sym, ap, subst, ◌∙◌}
+use Rattle.std.proofs.Common.{Err, ◌≤◌, ℕ, List, length, sym, ap, subst, ◌∙◌}
 use Rattle.redpile_top.proofs.Tellings.{err_told, build_told, script_told, read_later, longer_later, within_read, good_build}
 use Rattle.redpile_top.proofs.top.accepted.Goals as goal
 
@@ -12,9 +12,13 @@ pub returns-in-Err-TooLong-read_whole-clause-cause : goal.returns-in-Err-TooLong
 returns-in-Err-TooLong-read_whole-clause-cause g c =
     let b = g.I.Inputs.file c.args.inputs.now c.args.build.now in
     let build = c.in-Ok-read_build.build in
-    err_told c.told-in-Err-TooLong-read_whole.result _ _ c.told-in-Err-TooLong-read_whole.ensures
-    (build, (good_build b c.deref.result.now build c.all_playable.result (λ bytes is. c.deref.ensures.value ∙ c.in-Ok.ensures.whole bytes is) (subst (λ (bs : List ℕ). length bs ≤ 67108864) (sym c.deref.ensures.value) c.in-Ok.ensures.within) c.in-Ok-read_build.ensures.ok c.all_playable.ensures c.if-not-all_playable.false,
-        longer_later c.args.script.now (g.I.Inputs.file c.read_whole.new.inputs) (g.I.Inputs.file c.args.inputs.now) 1048576 c.in-Ok.ensures.files (c.in-Err-TooLong-read_whole.ensures.long (ap Err c.in-Err-TooLong-read_whole.field-0-is))))
+    err_told c.told-in-Err-TooLong-read_whole.result _ _ c.told-in-Err-TooLong-read_whole.ensures (
+      build,
+      (
+        good_build b c.deref.result.now build c.all_playable.result (λ bytes is. c.deref.ensures.value ∙ c.in-Ok.ensures.whole bytes is) (subst (λ (bs : List ℕ). length bs ≤ 67108864) (sym c.deref.ensures.value) c.in-Ok.ensures.within) c.in-Ok-read_build.ensures.ok c.all_playable.ensures c.if-not-all_playable.false,
+        longer_later c.args.script.now (g.I.Inputs.file c.read_whole.new.inputs) (g.I.Inputs.file c.args.inputs.now) 1048576 c.in-Ok.ensures.files (c.in-Err-TooLong-read_whole.ensures.long (ap Err c.in-Err-TooLong-read_whole.field-0-is)),
+      ),
+    )
 
 pub returns-clause-cause : goal.returns-clause-cause
 returns-clause-cause g c =

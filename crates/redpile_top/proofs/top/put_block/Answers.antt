@@ -1,4 +1,3 @@
-use Rattle.std.proofs.Common.{◌++◌, [], sym, ap, ◌∙◌}
 use Rattle.report.specs.FaultLine.{block_line_begin, newline}
 use Rattle.rp_io.proofs.Written.{wrote_both, prefix_more, prefix_after}
 use Rattle.redpile_top.proofs.Going.{on_err_holds, on_ok_then, on_err_then}

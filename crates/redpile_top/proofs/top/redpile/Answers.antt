@@ -1,4 +1,4 @@
-use Rattle.std.proofs.Common.{◌≡◌, ◌∙◌, map, sym, subst, string_bytes}
+use Rattle.std.proofs.Common.{◌∙◌, map, sym, subst, string_bytes}
 use Rattle.redpile_top.specs.declared.status.Status.{Status}
 use Rattle.redpile_top.specs.Clauses.{Ran, form_of, BuildClause, BlockClause, ScriptClause, CompleteClause}
 use Rattle.redpile_top.proofs.Endings.{build_done, block_done, script_done, build_failed, block_failed, script_failed, complete_failed, caused, never_done, line_written}
