@@ -1,0 +1,15 @@
+pub mod Shortest
+pub mod FirstOnes
+pub mod Joined
+pub mod StackSteps
+pub mod Slots
+pub mod CellSteps
+pub mod TextLengths
+pub mod Spellable
+pub mod TickSteps
+pub mod SpellableRoots
+pub mod ReadCells
+pub mod ReadStacks
+pub mod ReadEntities
+pub mod ReadRoots
+pub mod MadeRoots
