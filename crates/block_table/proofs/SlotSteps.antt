@@ -41,4 +41,3 @@ slots_in (row ∷ rows) (suc n) h k = slots_in rows n (behind (row_has_slots row
 pub listed_slots : (name : ℕ) → is_listed (Container name) ≡ true → 1 ≤ slots (Container name)
 unfolding kind_at
 listed_slots name h = slots_in table name table_has_slots h
-
