@@ -9,5 +9,6 @@ pub mod Stored
 pub mod Marks
 pub mod MarkKeys
 pub mod Outputs
+pub mod Roles
 pub use Rattle.block_table.specs.Facts
 pub use Rattle.block_table.specs.WrittenText

@@ -1,6 +1,6 @@
 //! Places that are marked.
 
-ghost use Rattle.std.specs.Prelude.{◌≡◌, [], OnOk, OnErr, IsTrue};
+ghost use Rattle.std.specs.Prelude.{◌≡◌, [], OnOk, OnErr, IfOk, IsTrue};
 ghost use Rattle.build.specs.Marks.{is_marked, with_mark, is_rising};
 
 use circuit::Pos;
@@ -43,6 +43,14 @@ impl Marks {
         Marks {
             keys: BTreeSet::new(alloc),
         }
+    }
+
+    /// Equal marks.
+    pub fn copy(&self) -> Result<Marks, NoMemory>
+        ensures { IfOk result (λ copy. copy ≡ self.now) }
+    {
+        let keys = self.keys.clone()?;
+        Ok(Marks { keys })
     }
 
     /// Marks a place. One that is marked stays marked once.

@@ -134,12 +134,12 @@ kept_of-put_last gone priority key (one ∷ keys) h = elim (cases_Bool (nat_le (
   | inr e ↦ rw (e, h) refl
 ]
 
-kept_of-put_all_last : {K : Type 0} (gone : K → Bool) (priority : K → ℕ) (more keys : List K) → Each (λ k. gone k ≡ true) more → kept_of gone (put_all_last priority more keys) ≡ kept_of gone keys
+pub kept_of-put_all_last : {K : Type 0} (gone : K → Bool) (priority : K → ℕ) (more keys : List K) → Each (λ k. gone k ≡ true) more → kept_of gone (put_all_last priority more keys) ≡ kept_of gone keys
 kept_of-put_all_last gone priority [] keys h = refl
 kept_of-put_all_last gone priority (one ∷ more) keys h =
     kept_of-put_all_last gone priority more (put_last priority one keys) h.1 ∙ kept_of-put_last gone priority one keys h.0
 
-kept_of-kept : {K : Type 0} (gone : K → Bool) (keys : List K) → Each (λ k. gone k ≡ false) keys → kept_of gone keys ≡ keys
+pub kept_of-kept : {K : Type 0} (gone : K → Bool) (keys : List K) → Each (λ k. gone k ≡ false) keys → kept_of gone keys ≡ keys
 kept_of-kept gone [] h = refl
 kept_of-kept gone (key ∷ keys) h = rw (h.0, kept_of-kept gone keys h.1) refl
 

@@ -6,4 +6,7 @@ pub mod FiringLaw
 pub mod Matches
 pub mod Bounded
 pub mod LeftLaw
+pub mod Joining
+pub mod Kept
+pub mod WireCells
 mod Rows

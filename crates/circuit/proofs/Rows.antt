@@ -3,14 +3,16 @@ use Rattle.std.proofs.Common.{◌≡◌, ℕ, zero, suc, false, List, [], ◌∷
 use Rattle.std.specs.Prelude.{pos, ◌==◌}
 use Rattle.circuit.specs.declared.Component.{Component}
 use Rattle.circuit.specs.declared.Component.TheVariants.{Lever, Lamp}
+use Rattle.circuit.specs.declared.Cell.{Cell}
 use Rattle.circuit.specs.declared.Click.TheVariants.{Use}
 use Rattle.circuit.specs.declared.Act.{Act}
 use Rattle.circuit.specs.declared.Act.TheVariants.{Click as ClickAct, Ticks as TicksAct}
 use Rattle.circuit.specs.declared.Pos.{Pos}
 use Rattle.circuit.specs.Circuit.{Circuit, State, set_value, fire_all, later, IsDue, Among, IsFiringList, start}
 use Rattle.circuit.specs.declared.Step.TheVariants.{Click as ClickAt, Tick as OneTick}
-use Rattle.circuit.specs.Shows.{Ended, Clicked, Ticked, Shows}
+use Rattle.circuit.specs.Shows.{Ended, Clicked, Ticked, Plays, Shows}
 use Rattle.circuit.specs.Replay.{Failure, Replays}
+use Rattle.circuit.specs.Joining.{remaining, GoesOn}
 
 abbrev at : ℕ → Pos
 at x = record { x = pos x; y = pos 0; z = pos 0 }
@@ -115,3 +117,37 @@ lamp_left_out = record {
       (Ticked {next = later used_again} (record { order = second_tick; after = refl }) Ended)));
   wrong = λ f. f.all 1 lamp_is_due;
 }
+
+-- The same run, cut in two after the second click, when the lamp's tick has two ticks of time to go.
+first_half : Plays lever_and_lamp (ClickAct (at 0) Use ∷ TicksAct 1 ∷ ClickAct (at 0) Use ∷ []) ([] ∷ []) ((0 ∷ []) ∷ (1 ∷ []) ∷ (1 ∷ []) ∷ (1 ∷ []) ∷ []) used_again
+first_half = record {
+  rest = (1 ∷ []) ∷ (1 ∷ []) ∷ (1 ∷ []) ∷ [];
+  at_start = refl;
+  run = Clicked {next = used} (record { key = 0; component = Lever; value = 1; there = refl; place = refl; takes = refl; after = refl })
+      (Ticked {next = later used} (record { order = first_tick; after = refl })
+      (Clicked {next = used_again} (record { key = 0; component = Lever; value = 0; there = refl; place = refl; takes = refl; after = refl }) Ended));
+}
+
+abbrev held_then : ℕ → Cell
+held_then (suc zero) = record { value = 1; due = 2; priority = 3 }
+held_then _ = record { value = 0; due = 0; priority = 0 }
+
+abbrev goes_off : Circuit ℕ
+goes_off = record lever_and_lamp { begin = held_then }
+
+goes_on_there : GoesOn lever_and_lamp used_again goes_off
+goes_on_there = record {
+  same = λ a b. refl;
+  role = λ k. refl;
+  first = λ k. refl;
+  base = λ k. refl;
+  place = λ k. refl;
+  readings = λ given k. refl;
+  shown = refl;
+  begin = held;
+}
+  where
+    held : (k : ℕ) (component : Component) → component_of k ≡ Some component → held_then k ≡ remaining 1 (used_again.cells k)
+    held zero component there = refl
+    held (suc zero) component there = refl
+    held (suc (suc k)) component there = absurd (let no : None ≡ Some component = there in cc)

@@ -6,3 +6,4 @@ pub mod Firing
 pub mod Shows
 pub mod Taken
 pub mod Replay
+pub mod Joining

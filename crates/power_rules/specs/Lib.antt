@@ -1,0 +1,13 @@
+pub mod Power
+pub mod Standing
+pub mod Readings
+pub mod RightWires
+pub mod WirePowers
+pub mod World
+pub mod Bounded
+pub mod StandsFor
+pub use Rattle.build.specs.Place
+pub use Rattle.build.specs.Plan
+pub use Rattle.build.specs.Roles
+pub use Rattle.wire_shape.specs.Shape
+pub use Rattle.wire_shape.specs.Feeders
