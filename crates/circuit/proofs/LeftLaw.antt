@@ -14,6 +14,7 @@ use Rattle.circuit.proofs.Simulate.{Simulates, refines_by}
 use Rattle.circuit.proofs.Settled.{IsSettled, attended-settled, settled_attended, outs-attend}
 use Rattle.circuit.specs.Keys.{IsTest}
 use Rattle.circuit.specs.Firing.{due_at}
+use Rattle.circuit.specs.PutLast.{with_due}
 use Rattle.circuit.proofs.Runs.{due_at-true, due_at_from, due_among}
 use Rattle.circuit.proofs.Matches.{attended_at_alike, fired_at_alike, seen_at_alike}
 use Rattle.circuit.proofs.Keys.{not_key, each_as, rising_as, put_last, put_all_last, each_put_all_last, among_put_all_last, once_put_all_last, rising_put_all_last, each_filter, among_filter, once_filter}
@@ -60,7 +61,7 @@ settled_at time (Some c) first reads k cell component there =
     let same : c ≡ component = cc in
     subst (λ x. IsSettled x (reads k) (attended time c first (reads k) cell)) same (settled_attended time c first (reads k) cell)
 
-attend_twins : {K : Type 0} {gone : K → Bool} {old new : Circuit K} → Left gone old new → (s2 s1 : State K) → Agree gone s2 s1 → Twins gone old (attend new s2) (attend old s1)
+pub attend_twins : {K : Type 0} {gone : K → Bool} {old new : Circuit K} → Left gone old new → (s2 s1 : State K) → Agree gone s2 s1 → Twins gone old (attend new s2) (attend old s1)
 attend_twins {old} {new} left s2 s1 a = record {
   agree = record {
     time = a.time;
@@ -165,12 +166,9 @@ due_kept left s2 s1 a k e d = record {
   now = ap (λ (c : Cell). c.due) (a.cells k e) ∙ d.now ∙ sym a.time;
 }
 
--- The old circuit's firing list: the keys that go and are due stand last within their priority.
-abbrev pub old_order : {K : Type 0} → List K → Circuit K → State K → List K → List K
-old_order gone_keys old s keys = put_all_last (λ k. (s.cells k).priority) (due_among gone_keys old s) keys
-
+-- In the old circuit's firing list the keys that go and are due stand last within their priority.
 old_order_is_firing_list : {K : Type 0} {gone : K → Bool} {old new : Circuit K} (left : Left gone old new) (s2 s1 : State K) → Agree gone s2 s1 → (keys : List K) →
-    IsFiringList new s2 keys → IsFiringList old s1 (old_order left.keys old s1 keys)
+    IsFiringList new s2 keys → IsFiringList old s1 (with_due left.keys old s1 keys)
 old_order_is_firing_list {K} {gone} {old} {new} left s2 s1 a keys f = record {
   due = each_put_all_last (IsDue old s1) prio more keys
       (each_as (λ k. (gone k ≡ true) × IsDue old s1 k) (IsDue old s1) (λ k p. p.1) more (due_gone_is left s1))
@@ -199,7 +197,7 @@ old_order_is_firing_list {K} {gone} {old} {new} left s2 s1 a keys f = record {
 later_twins : {K : Type 0} {gone : K → Bool} {old : Circuit K} (s2 s1 : State K) → Twins gone old s2 s1 → Twins gone old (later s2) (later s1)
 later_twins s2 s1 t = record { agree = record { time = ap (λ n. n + 1) t.agree.time; cells = t.agree.cells }; settled = t.settled }
 
-click_twins : {K : Type 0} {gone : K → Bool} {old new : Circuit K} → Left gone old new → (pos : Pos) (click : Click) (s2 s1 t2 : State K) → Twins gone old s2 s1 → Clicks new pos click s2 t2 →
+pub click_twins : {K : Type 0} {gone : K → Bool} {old new : Circuit K} → Left gone old new → (pos : Pos) (click : Click) (s2 s1 t2 : State K) → Twins gone old s2 s1 → Clicks new pos click s2 t2 →
     (t1 : State K) × Clicks old pos click s1 t1 × Twins gone old t2 t1
 click_twins {K} {gone} {old} {new} left pos click s2 s1 t2 t c = elim (cases_Bool (gone c.key)) [
   | inl e ↦ (let none : Some c.component ≡ None = sym c.there ∙ left.dropped c.key e in absurd (cc))
@@ -221,10 +219,9 @@ click_twins {K} {gone} {old} {new} left pos click s2 s1 t2 t c = elim (cases_Boo
       ))
 ]
 
-tick_twins : {K : Type 0} {gone : K → Bool} {old new : Circuit K} → Left gone old new → IsTest old.same → (fires : List K) (s2 s1 t2 : State K) → Twins gone old s2 s1 → Ticks new fires s2 t2 →
-    (fires1 : List K) × (t1 : State K) × Ticks old fires1 s1 t1 × Twins gone old t2 t1
+pub tick_twins : {K : Type 0} {gone : K → Bool} {old new : Circuit K} (left : Left gone old new) → IsTest old.same → (fires : List K) (s2 s1 t2 : State K) → Twins gone old s2 s1 → Ticks new fires s2 t2 →
+    (t1 : State K) × Ticks old (with_due left.keys old (later s1) fires) s1 t1 × Twins gone old t2 t1
 tick_twins {K} {gone} {old} {new} left test fires s2 s1 t2 t c = (
-  order,
   fire_all old (later s1) order,
   record { order = old_order_is_firing_list left (later s2) (later s1) twins.agree fires c.order; after = refl },
   subst (λ (x : State K). Twins gone old x (fire_all old (later s1) order)) (sym c.after)
@@ -233,7 +230,7 @@ tick_twins {K} {gone} {old} {new} left test fires s2 s1 t2 t c = (
 )
   where
     order : List K
-    order = old_order left.keys old (later s1) fires
+    order = with_due left.keys old (later s1) fires
 
     twins : Twins gone old (later s2) (later s1)
     twins = later_twins s2 s1 t
@@ -248,7 +245,7 @@ map_kept : {K A : Type 0} (L : K → Type 0) (f g : K → A) → ((k : K) → L 
 map_kept L f g h [] l = refl
 map_kept L f g h (k ∷ keys) l = λ i. h k l.0 i ∷ map_kept L f g h keys l.1 i
 
-view_twins : {K : Type 0} {gone : K → Bool} {old new : Circuit K} → Left gone old new → (s2 s1 : State K) → Twins gone old s2 s1 → view new s2 ≡ view old s1
+pub view_twins : {K : Type 0} {gone : K → Bool} {old new : Circuit K} → Left gone old new → (s2 s1 : State K) → Twins gone old s2 s1 → view new s2 ≡ view old s1
 view_twins {K} {gone} {old} {new} left s2 s1 t = ap (map (seen new s2)) left.shown ∙ map_kept (λ k. gone k ≡ false) (seen new s2) (seen old s1) one old.shown left.seen
   where
     one : (k : K) → gone k ≡ false → seen new s2 k ≡ seen old s1 k
@@ -261,7 +258,7 @@ left_simulates {K} {gone} {old} {new} left test = record {
   begins = attend_twins left (record { time = 0; cells = new.begin }) (record { time = 0; cells = old.begin }) (record { time = refl; cells = left.begin });
   views = view_twins left;
   clicks = click_twins left;
-  ticks = tick_twins left test;
+  ticks = λ fires s2 s1 t2 t c. let a = tick_twins left test fires s2 s1 t2 t c in (with_due left.keys old (later s1) fires, a.0, a.1, a.2);
 }
 
 -- So what is left refines the old circuit.

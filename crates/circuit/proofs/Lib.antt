@@ -1,11 +1,13 @@
-pub mod Keys
-pub mod Settled
-pub mod Simulate
+pub use Rattle.circuit.specs.KeySteps as Keys
+pub use Rattle.circuit.specs.Settled
+pub use Rattle.circuit.specs.Simulate
+pub use Rattle.circuit.specs.Matches
+pub use Rattle.circuit.specs.Bounded
 pub mod Runs
 pub mod FiringLaw
-pub mod Matches
-pub mod Bounded
 pub mod LeftLaw
+pub mod PutRuns
+pub mod RestLaw
 pub mod Joining
 pub mod Kept
 pub mod WireCells

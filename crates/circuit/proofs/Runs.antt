@@ -1,6 +1,6 @@
 -- Every run can be finished: each state has a firing list, and each click that is taken leads on.
 use Rattle.std.proofs.Common.{◌≡◌, ◌≢◌, ℕ, zero, suc, ◌+◌, Bool, true, false, not, ◌&&◌, List, [], ◌∷◌, ◌++◌, length, Option, Some, None, refl, ap, inl}
-use Rattle.std.specs.Prelude.{filter, cond, ◌==◌, nat_lt, nat_le}
+use Rattle.std.specs.Prelude.{cond, ◌==◌, nat_lt, nat_le}
 use Rattle.std.proofs.lemmas.Bool.{false≢true, and_parts, not-true, eq-eqb, ne_eqb, eqb-true, eqb-false}
 use Rattle.circuit.specs.declared.Component.{Component}
 use Rattle.circuit.specs.declared.Component.TheVariants.{Lever, Button, Plate, Weighted}
@@ -14,6 +14,7 @@ use Rattle.circuit.specs.Component.{takes, clicked}
 use Rattle.circuit.specs.Circuit.{Circuit, State, fire_all, set_value, Clicks, later, IsDue, Each, IsFiringList, Ticks, start, view}
 use Rattle.circuit.specs.Firing.{due_at}
 use Rattle.circuit.specs.Keys.{IsListed}
+pub use Rattle.circuit.specs.PutLast.{due_among}
 use Rattle.circuit.specs.declared.Step.{Step}
 use Rattle.circuit.specs.declared.Step.TheVariants.{Click as ClickAt, Tick as OneTick}
 use Rattle.circuit.specs.Shows.{ticks, steps_of, Run, Ended, Clicked, Ticked, clicks_in, fires_in, Plays, Shows}
@@ -29,11 +30,7 @@ due_at-true (Some component) cell time h =
 pub due_at_from : (component : Component) (cell : Cell) (time : ℕ) → cell.due ≢ 0 → cell.due ≡ time → due_at (Some component) cell time ≡ true
 due_at_from component cell time a b = rw (ne_eqb cell.due 0 a, eq-eqb cell.due time b) refl
 
--- those of the keys that are due
-abbrev pub due_among : {K : Type 0} → List K → Circuit K → State K → List K
-due_among keys C s = filter (λ k. due_at (C.role k) (s.cells k) s.time) keys
-
--- and in the order of their priorities
+-- the keys that are due, in the order of their priorities
 abbrev pub due_in_order : {K : Type 0} → List K → Circuit K → State K → List K
 due_in_order keys C s = put_all_last (λ k. (s.cells k).priority) (due_among keys C s) []
 

@@ -7,3 +7,13 @@ pub mod Shows
 pub mod Taken
 pub mod Replay
 pub mod Joining
+pub mod PutLast
+pub mod Rest
+pub mod Events
+pub mod KeySteps
+pub mod Settled
+pub mod Simulate
+pub mod Matches
+pub mod Bounded
+pub mod Between
+pub mod Merged

@@ -138,12 +138,3 @@ standing-plain entries keep gone a b new here_a here_b e =
     map-set (option_map plain) (set entries keep (Some new)) gone None
     ∙ ap (λ (g : Nodes). set g gone None) (change-plain (standing_for (node_at (plain_nodes entries) gone)) entries keep a new here_a
     (e ∙ ap (λ (entry : Option Node). standing_for entry (plain a)) (sym (node_here entries gone b here_b))))
-
-pub stored_after_standing : (entries : List (Option StoredNode)) (keep gone : ℕ) (a new : StoredNode) → IsStored (plain_nodes entries) → get_or entries keep None ≡ Some a → new.links ≡ a.links →
-    IsStored (plain_nodes (set (set entries keep (Some new)) gone None))
-stored_after_standing entries keep gone a new stored here e =
-    subst IsStored (sym (map-set (option_map plain) (set entries keep (Some new)) gone None))
-    (stored_after_set (plain_nodes (set entries keep (Some new))) gone None
-    (stored_after_put entries keep new stored
-    (rw e (stored.groups keep (plain a) (node_here entries keep a here), stored.few keep (plain a) (node_here entries keep a here))))
-    (λ node q. absurd (cc)))

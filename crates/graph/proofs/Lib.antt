@@ -5,6 +5,12 @@ pub mod EditSteps
 pub mod ClickSteps
 pub mod TextSteps
 pub mod ListedSteps
-pub mod BoundSteps
+pub use Rattle.graph.specs.BoundSteps
 pub mod RefineSteps
 pub mod Rows
+pub mod FanSteps
+pub mod Shares
+pub mod LinkDrops
+pub mod LinkSteps
+pub mod Bounds
+pub mod FoldSteps

@@ -13,7 +13,7 @@ use Rattle.graph.specs.GraphCircuit.{role_at, graph_circuit}
 pub test_of_keys : IsTest (λ (a : ℕ) (b : ℕ). a == b)
 test_of_keys = record { itself = λ a. eq-eqb a a refl; one = λ a b. eqb-true a b }
 
-among_keys : (from key : ℕ) (g : Nodes) (node : Node) → node_at g key ≡ Some node → Among (keys_from from g) (from + key)
+pub among_keys : (from key : ℕ) (g : Nodes) (node : Node) → node_at g key ≡ Some node → Among (keys_from from g) (from + key)
 among_keys from key [] node h = absurd (cc)
 among_keys from zero (None ∷ g) node h = absurd (cc)
 among_keys from zero (Some n ∷ g) node h = inl (omega arith)

@@ -18,3 +18,8 @@ pub mod Refines
 pub mod Steps
 pub mod Done
 pub mod Measure
+pub mod RawNodes
+pub mod Merging
+pub mod BoundSteps
+pub mod AtKeys
+pub mod LinkAt

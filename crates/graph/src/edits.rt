@@ -1,11 +1,13 @@
 //! Edits of one node, and of the links of all nodes.
 
-ghost use Rattle.std.specs.Prelude.{◌≡◌, ◌+◌, ◌<◌, ◌≤◌, ◌^◌, [], ◌∷◌, ◌++◌, List, length, map, insert, count_by, OnOk, OnErr, IfOk, option_map};
+ghost use Rattle.std.specs.Prelude.{◌≡◌, ◌≢◌, ◌+◌, ◌<◌, ◌≤◌, ◌^◌, [], ◌∷◌, ◌++◌, List, length, map, insert, count_by, OnOk, OnErr, IfOk, option_map};
 ghost use Rattle.graph.specs.declared.Group.TheVariants.{Back as BackGroup};
 ghost use Rattle.graph.specs.declared.Link.{Link};
+ghost use Rattle.graph.specs.Graph.{Lives};
 ghost use Rattle.graph.specs.Links.{in_groups, of_group};
 ghost use Rattle.graph.specs.Stored.{plain, plain_nodes};
 ghost use Rattle.graph.specs.Edits.{change, with_link, without_link, folded, renamed, renamed_link, drop_set};
+ghost use Rattle.graph.specs.Merging.{taken_over, IsFanOut};
 
 use crate::{Group, Kind, Link, Links, Node, NodeKey, OfNodes, Places, Pos};
 use node_arena::{Arena, Key};
@@ -159,12 +161,46 @@ impl Node {
     }
 }
 
+// Lets `keep` stand for the places of `gone`, and drops `gone` and the links into it.
+pub fn take_over(
+    nodes: &mut Arena<OfNodes, Node>,
+    keep: NodeKey,
+    gone: NodeKey,
+) -> Result<(), NoMemory>
+    requires keep { Lives (plain_nodes nodes.old.entries) keep }
+    requires gone { Lives (plain_nodes nodes.old.entries) gone }
+    ensures nodes { OnOk result (plain_nodes nodes.new.entries ≡ taken_over (plain_nodes nodes.old.entries) keep gone) }
+    ensures err { OnErr result (nodes.new ≡ nodes.old) }
+{
+    let other = nodes.get(gone).unwrap();
+    let also = nodes.get(keep).unwrap().places_with(other)?;
+    nodes.get_mut(keep).unwrap().also = also;
+    nodes.remove(gone);
+    Ok(())
+}
+
 // In all nodes each link from `gone` comes from `keep`.
 pub fn rename_in_all(nodes: &mut Arena<OfNodes, Node>, keep: NodeKey, gone: NodeKey)
     ensures { plain_nodes nodes.new.entries ≡ map (option_map (renamed keep gone)) (plain_nodes nodes.old.entries) }
 {
     for number in 0..nodes.made() {
         rename_at(nodes, Key::new(number), keep, gone);
+    }
+}
+
+// The same, where all links from `gone` go into nodes under these keys. It looks at no other node.
+pub fn rename_among(
+    nodes: &mut Arena<OfNodes, Node>,
+    keep: NodeKey,
+    gone: NodeKey,
+    targets: &[NodeKey],
+)
+    requires differ { keep ≢ gone }
+    requires fan { IsFanOut (plain_nodes nodes.old.entries) gone targets.now }
+    ensures { plain_nodes nodes.new.entries ≡ map (option_map (renamed keep gone)) (plain_nodes nodes.old.entries) }
+{
+    for key in targets {
+        rename_at(nodes, *key, keep, gone);
     }
 }
 

@@ -9,6 +9,7 @@ ghost use Rattle.graph.specs.Graph.{node_at, Lives, node_count, link_count, spar
 ghost use Rattle.graph.specs.Links.{IsInGroups};
 ghost use Rattle.graph.specs.Stored.{plain};
 ghost use Rattle.graph.specs.Edits.{add_link, drop_link, fold_to, merge, drop_set, HasLinkAt, IsUnlinked, IsClosed};
+ghost use Rattle.graph.specs.Merging.{IsFanOut};
 ghost use Rattle.graph.specs.GraphCircuit.{graph_circuit};
 ghost use Rattle.graph.specs.Clicks.{HasAnswer, HasWire, IsClickInRange};
 ghost use Rattle.graph.specs.GraphText.{graph_text};
@@ -252,11 +253,29 @@ impl Graph {
         ensures nodes { OnOk result (self.new.nodes ≡ merge self.old.nodes keep gone) }
         ensures err { OnErr result (self.new ≡ self.old) }
     {
-        let other = self.nodes.get(gone).unwrap();
-        let also = self.nodes.get(keep).unwrap().places_with(other)?;
-        self.nodes.get_mut(keep).unwrap().also = also;
-        self.nodes.remove(gone);
+        edits::take_over(&mut self.nodes, keep, gone)?;
         edits::rename_in_all(&mut self.nodes, keep, gone);
+        Ok(())
+    }
+
+    /// The same as [`Graph::merge`], where all links from `gone` go into the nodes `targets`. It
+    /// looks at the links of these alone.
+    pub fn merge_among(
+        &mut self,
+        keep: NodeKey,
+        gone: NodeKey,
+        targets: &[NodeKey],
+    ) -> Result<(), NoMemory>
+        requires keep { Lives self.old.nodes keep }
+        requires gone { Lives self.old.nodes gone }
+        requires differ { keep ≢ gone }
+        requires unlinked { IsUnlinked self.old.nodes (keep ∷ gone ∷ []) }
+        requires fan { IsFanOut self.old.nodes gone targets.now }
+        ensures nodes { OnOk result (self.new.nodes ≡ merge self.old.nodes keep gone) }
+        ensures err { OnErr result (self.new ≡ self.old) }
+    {
+        edits::take_over(&mut self.nodes, keep, gone)?;
+        edits::rename_among(&mut self.nodes, keep, gone, targets);
         Ok(())
     }
 

@@ -4,3 +4,4 @@ pub use Rattle.graph.specs.Refines
 pub use Rattle.graph.specs.Sound
 pub mod Frame
 pub mod EitherLaws
+pub mod Took

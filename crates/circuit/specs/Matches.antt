@@ -10,7 +10,7 @@ use Rattle.circuit.specs.Component.{attended, fired, clicked}
 use Rattle.circuit.specs.Circuit.{Circuit, State, outs, put, attended_at, attend, fired_at, fired_in, fire, fire_all, with_value, set_value, later, IsDue, Each, EachBefore, Among, IsFiringList, seen_at, seen, view}
 use Rattle.circuit.specs.Shows.{Refines, RefinesBy}
 use Rattle.circuit.specs.Keys.{IsTest}
-use Rattle.circuit.proofs.Simulate.{SimulatesBy, simulates_of, refines_by, refines_in_order}
+use Rattle.circuit.specs.Simulate.{SimulatesBy, simulates_of, refines_by, refines_in_order}
 
 -- a fact of states that holds at the start and that every event keeps
 pub record IsInvariant {K : Type 0} (C : Circuit K) (I : State K → Type 0) : Type 0 where

@@ -1,9 +1,10 @@
 -- Keys and lists of keys: what holds of each, of each before each later one, and what is among them.
-use Rattle.std.proofs.Common.{◌≡◌, ℕ, ◌<◌, ◌≤◌, Bool, true, false, List, [], ◌∷◌, sym, ◌∙◌, subst, arith, ◌≢◌, ◌⊎◌, inl, inr, if◌then◌else◌}
+use Rattle.std.proofs.Common.{◌≡◌, ℕ, ◌<◌, ◌≤◌, Bool, true, false, List, [], ◌∷◌, sym, ◌∙◌, subst, arith, ◌≢◌, ◌⊎◌, inl, inr}
 use Rattle.std.proofs.lemmas.Bool.{cases_Bool, leb-true, leb-false, false≢true}
 use Rattle.std.specs.Prelude.{nat_le, filter}
 use Rattle.circuit.specs.Circuit.{Each, EachBefore, Among}
 use Rattle.circuit.specs.Keys.{IsTest}
+pub use Rattle.circuit.specs.PutLast.{put_last, put_all_last}
 
 -- what a right test tells
 pub cases_key : {K : Type 0} {same : K → K → Bool} → IsTest same → (a b : K) → (a ≡ b) ⊎ (a ≢ b)
@@ -31,16 +32,6 @@ rising_as {K} p q (one ∷ keys) h e = (both keys h.1 e.0, rising_as p q keys h.
     both : (keys : List K) → Each (λ k. p k ≡ q k) keys → Each (λ b. p one ≤ p b) keys → Each (λ b. q one ≤ q b) keys
     both [] a b = tt
     both (k ∷ keys) a b = ((let x : p one ≡ q one = h.0 in let y : p k ≡ q k = a.0 in let z : p one ≤ p k = b.0 in omega arith), both keys a.1 b.1)
-
--- The key stands last among those of its priority, in a list that rises by priority.
-abbrev pub put_last : {K : Type 0} → (K → ℕ) → K → List K → List K
-put_last priority key [] = key ∷ []
-put_last priority key (one ∷ keys) = if nat_le (priority one) (priority key) then one ∷ put_last priority key keys else key ∷ one ∷ keys
-
--- they go in one after another
-abbrev pub put_all_last : {K : Type 0} → (K → ℕ) → List K → List K → List K
-put_all_last priority [] keys = keys
-put_all_last priority (one ∷ more) keys = put_all_last priority more (put_last priority one keys)
 
 each_put_last : {K : Type 0} (P : K → Type 0) (priority : K → ℕ) (key : K) (keys : List K) → P key → Each P keys → Each P (put_last priority key keys)
 each_put_last P priority key [] p e = (p, tt)

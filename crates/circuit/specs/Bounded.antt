@@ -12,7 +12,7 @@ use Rattle.circuit.specs.Component.{top, out, goal, attended_value, fired_value,
 use Rattle.circuit.specs.Circuit.{Circuit, State, outs, out_at, put, attended_at, fired_at, fired_in, with_value}
 use Rattle.circuit.specs.Bounds.{BoundedAt, Bounded, IsBounded}
 use Rattle.circuit.specs.Keys.{IsTest}
-use Rattle.circuit.proofs.Matches.{IsInvariant}
+use Rattle.circuit.specs.Matches.{IsInvariant}
 
 -- either of two numbers
 pub cond_le : (b : Bool) (x y top : ℕ) → x ≤ top → y ≤ top → cond b x y ≤ top
@@ -81,7 +81,7 @@ fired_bounded : {K : Type 0} (time : ℕ) (role : Option Component) (first : Boo
 fired_bounded time None first reads k cell h b = tt
 fired_bounded time (Some component) first reads k cell h b = fired_value_le component (reads k) cell.value h b
 
-put_bounded : {K : Type 0} (C : Circuit K) → IsTest C.same → (s : State K) (key : K) (cell : Cell) → Bounded C s → BoundedAt (C.role key) cell → Bounded C (put C s key cell)
+pub put_bounded : {K : Type 0} (C : Circuit K) → IsTest C.same → (s : State K) (key : K) (cell : Cell) → Bounded C s → BoundedAt (C.role key) cell → Bounded C (put C s key cell)
 put_bounded C t s key cell b h = record {
   each = λ k.
       cond_both (C.same k key) cell (s.cells k) (BoundedAt (C.role k)) (λ e. subst (λ j. BoundedAt (C.role j) cell) (sym (t.one k key e)) h) (λ e. b.each k);

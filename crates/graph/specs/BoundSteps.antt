@@ -3,7 +3,7 @@ use Rattle.std.proofs.Common.{◌≡◌, ℕ, ◌-◌, ◌≤◌, List, [], ◌�
 use Rattle.std.specs.Prelude.{nat_lt, IfSome}
 use Rattle.circuit.specs.declared.Component.{Component}
 use Rattle.circuit.specs.Bounds.{BoundedAt, IsBounded}
-use Rattle.circuit.proofs.Bounded.{cond_le}
+use Rattle.circuit.specs.Bounded.{cond_le}
 use Rattle.graph.specs.declared.Kind.{Kind}
 use Rattle.graph.specs.declared.Kind.TheVariants.{Comparator}
 use Rattle.graph.specs.declared.Group.{Group}

@@ -1,0 +1,14 @@
+-- The parts of a merge, and where the links go that it renames.
+use Rattle.std.specs.Prelude.{◌≡◌, ℕ, List, None, set}
+use Rattle.circuit.specs.Circuit.{Among}
+use Rattle.graph.specs.declared.Link.{Link}
+use Rattle.graph.specs.Graph.{Nodes, node_at, HasLink}
+use Rattle.graph.specs.Edits.{change, standing_for}
+
+-- `keep` stands for the places of `gone`, which is dropped
+abbrev pub taken_over : Nodes → ℕ → ℕ → Nodes
+taken_over g keep gone = set (change (standing_for (node_at g gone)) g keep) gone None
+
+-- each link from the node goes into one of these
+pub record IsFanOut (g : Nodes) (from : ℕ) (targets : List ℕ) : Type 0 where
+  pub all : (key index : ℕ) (link : Link) → HasLink g key index link → link.from ≡ from → Among targets key
