@@ -8,6 +8,7 @@ use Rattle.script.specs.declared.ScriptKind.{ScriptKind}
 use Rattle.script.specs.declared.ScriptRefusal.{ScriptRefusal}
 use Rattle.script.specs.declared.ScriptRefusal.TheVariants.{Line, NoMemory as NoMemoryOfScript}
 use Rattle.script.specs.Acts.{Meaning}
+use Rattle.report.specs.declared.Fault.{Fault}
 use Rattle.report.specs.declared.Fault.TheVariants.{Usage as UsageFault, Read, Write, Build as BuildFault, BuildTooLong, Script as ScriptFault, ScriptTooLong, Memory, Graph}
 use Rattle.report.specs.declared.GraphRefusal.{GraphRefusal}
 use Rattle.report.specs.declared.GraphRefusal.TheVariants.{NoMemory as NoMemoryOfGraph}
@@ -16,10 +17,7 @@ use Rattle.redpile_top.specs.declared.form.Form.{Form}
 use Rattle.redpile_top.specs.declared.form.Form.TheVariants.{World}
 use Rattle.redpile_top.specs.declared.status.Status.{Status}
 use Rattle.redpile_top.specs.declared.status.Status.TheVariants.{Done, Usage, ReadFault, WriteFault, BadBuild, BadBlock, BadScript, NoMemory}
-use Rattle.redpile_top.specs.declared.status.Stop.{Stop}
-use Rattle.redpile_top.specs.declared.status.Stop.TheVariants.{Told as ToldStop, NotYet}
-use Rattle.redpile_top.specs.Playable.{IsPlayable, HasUnplayable}
-use Rattle.redpile_top.specs.Clauses.{Told, word, Ran, IsBuild, is_block, IsBadBuild, IsNotYet, IsBadBlock, IsScript, IsBadScript, IsBadScriptFor, BuildCause, ScriptCause, Exactly, BuildClause, BlockClause, ScriptClause, CompleteClause, CauseOf, status_of, status_of_cause, status_of_script, status_of_graph}
+use Rattle.redpile_top.specs.Clauses.{Told, word, Ran, IsBuild, is_block, IsBadBuild, IsBadBlock, IsScript, IsBadScript, IsBadScriptFor, BuildCause, ScriptCause, Exactly, BuildClause, BlockClause, ScriptClause, CompleteClause, CauseOf, status_of, status_of_cause, status_of_script, status_of_graph}
 
 -- ---- what excludes what
 
@@ -31,20 +29,10 @@ named_block : (r : Refusal) → is_block r ≡ true → (name : List ℕ) × (r 
 named_block (unknown_block name) h = (name, refl)
 named_block _ h = absurd (cc)
 
-not_unplayable : (b : Plan) → IsPlayable b → HasUnplayable b → ⊥
-not_unplayable b h k = let clash = sym (h.each k.place) ∙ k.is in cc
-
-same_unplayable : (bytes : List ℕ) (build : Plan) → IsBuild build bytes → IsNotYet bytes → ⊥
-same_unplayable bytes build good bad =
-    not_unplayable build good.playable (subst HasUnplayable (same_build bytes bad.build build bad.is good.is) bad.unplayable)
-
 not_bad_build : (bytes : List ℕ) (build : Plan) → IsBuild build bytes → IsBadBuild bytes → ⊥
 not_bad_build bytes build good bad = elim bad [
   | inl long ↦ absurd (let within : length bytes ≤ 67108864 = good.within in omega arith)
-  | inr other ↦ elim other [
-    | inl cause ↦ not_both bytes build cause.refusal good.is cause.first
-    | inr later ↦ same_unplayable bytes build good later
-  ]
+  | inr cause ↦ not_both bytes build cause.refusal good.is cause.first
 ]
 
 not_bad_block : (bytes : List ℕ) (build : Plan) → file bytes build → IsBadBlock bytes → ⊥
@@ -54,11 +42,8 @@ not_bad_block bytes build is bad = not_both bytes build (unknown_block bad.name)
 block_alone : (bytes : List ℕ) (r : Refusal) → length bytes ≤ 67108864 → is_block r ≡ true → IsFirstRefusal bytes r → IsBadBuild bytes → ⊥
 block_alone bytes r within block first bad = elim bad [
   | inl long ↦ absurd (omega arith)
-  | inr other ↦ elim other [
-    | inl cause ↦ (let same : cause.refusal ≡ r = one_cause bytes r cause.refusal (own_block r block) first cause.first in
-        let clash : false ≡ true = sym cause.other ∙ ap is_block same ∙ block in absurd (cc))
-    | inr later ↦ not_both bytes later.build r later.is first
-  ]
+  | inr cause ↦ (let same : cause.refusal ≡ r = one_cause bytes r cause.refusal (own_block r block) first cause.first in
+      let clash : false ≡ true = sym cause.other ∙ ap is_block same ∙ block in absurd (cc))
 ]
 
 -- another cause is the first, so no block is
@@ -105,7 +90,7 @@ module _ (b : Option (List ℕ)) where
   build_by None cause bytes is = by_memory (IsBadBuild bytes) BadBuild (λ e. cc)
   build_by (Some r) cause bytes is = elim (cases_Bool (is_block r)) [
     | inl h ↦ rw h (never (IsBadBuild bytes) BadBuild BadBlock (λ e. cc) (block_alone bytes r (cause bytes is).0 h (cause bytes is).1))
-    | inr h ↦ rw h (here (IsBadBuild bytes) BadBuild (inr (inl (record { refusal = r; other = h; first = (cause bytes is).1 }))))
+    | inr h ↦ rw h (here (IsBadBuild bytes) BadBuild (inr (record { refusal = r; other = h; first = (cause bytes is).1 })))
   ]
 
   block_by : (told : Option Refusal) → BuildCause b told → (bytes : List ℕ) → b ≡ Some bytes → Exactly (IsBadBlock bytes) BadBlock (status_of_cause told)
@@ -167,69 +152,65 @@ module _ (told : Told) (words : List (List ℕ)) (reading writing : Type 0) (bef
       (not_bad_script_for build_bytes bytes ran.done.build ran.done.script (ran.done.accepted.build_is build_bytes is_b) (ran.done.accepted.script_is bytes is_s))
 
   -- words without a form are Usage
-  usage_alone : (stop : Stop) (answer : Status) → (Usage ≡ answer → ⊥) → ◌≡◌ {A = Result (Unit {0}) Stop} (Err stop) (Err (ToldStop UsageFault)) → status_of stop ≡ answer → ⊥
-  usage_alone stop answer h e f =
-      let same : stop ≡ ToldStop UsageFault = cc in
-      h (subst (λ (x : Stop). status_of x ≡ answer) same f)
+  usage_alone : (fault : Fault) (answer : Status) → (Usage ≡ answer → ⊥) → ◌≡◌ {A = Result (Unit {0}) Fault} (Err fault) (Err UsageFault) → status_of fault ≡ answer → ⊥
+  usage_alone fault answer h e f =
+      let same : fault ≡ UsageFault = cc in
+      h (subst (λ (x : Fault). status_of x ≡ answer) same f)
 
-  pub build_failed : (stop : Stop) (form : Option Form) → Ran form told words reading writing before now (Err stop) → BuildClause form told words (status_of stop)
-  build_failed stop None ran = usage_alone stop BadBuild (λ e. cc) ran.0
-  build_failed (ToldStop UsageFault) (Some World) ran = λ bytes is. absurd ran.cause
-  build_failed (ToldStop Read) (Some World) ran = λ bytes is. by_read (IsBadBuild bytes) BadBuild (λ e. cc)
-  build_failed (ToldStop Write) (Some World) ran = λ bytes is. never (IsBadBuild bytes) BadBuild WriteFault (λ e. cc) (not_bad_build bytes ran.front.build (ran.front.accepted.build_is bytes is))
-  build_failed (ToldStop (BuildFault refusal)) (Some World) ran = build_by (told (word words 1)) (plain_refusal refusal) ran.cause
-  build_failed (ToldStop BuildTooLong) (Some World) ran = λ bytes is. here (IsBadBuild bytes) BadBuild (inl (ran.cause bytes is))
-  build_failed (ToldStop (ScriptFault refusal)) (Some World) ran = build_by_script (told (word words 1)) (told (word words 2)) refusal ran.cause
-  build_failed (ToldStop ScriptTooLong) (Some World) ran = λ bytes is. never (IsBadBuild bytes) BadBuild BadScript (λ e. cc) (not_bad_build bytes ran.cause.0 ((ran.cause.1).0 bytes is))
-  build_failed (ToldStop Memory) (Some World) ran = λ bytes is. by_memory (IsBadBuild bytes) BadBuild (λ e. cc)
-  build_failed (ToldStop _) (Some World) ran = λ bytes is. absurd ran.cause
-  build_failed NotYet (Some World) ran = λ bytes is. here (IsBadBuild bytes) BadBuild (inr (inr (ran.cause bytes is).1))
+  pub build_failed : (fault : Fault) (form : Option Form) → Ran form told words reading writing before now (Err fault) → BuildClause form told words (status_of fault)
+  build_failed fault None ran = usage_alone fault BadBuild (λ e. cc) ran.0
+  build_failed UsageFault (Some World) ran = λ bytes is. absurd ran.cause
+  build_failed Read (Some World) ran = λ bytes is. by_read (IsBadBuild bytes) BadBuild (λ e. cc)
+  build_failed Write (Some World) ran = λ bytes is. never (IsBadBuild bytes) BadBuild WriteFault (λ e. cc) (not_bad_build bytes ran.front.build (ran.front.accepted.build_is bytes is))
+  build_failed (BuildFault refusal) (Some World) ran = build_by (told (word words 1)) (plain_refusal refusal) ran.cause
+  build_failed BuildTooLong (Some World) ran = λ bytes is. here (IsBadBuild bytes) BadBuild (inl (ran.cause bytes is))
+  build_failed (ScriptFault refusal) (Some World) ran = build_by_script (told (word words 1)) (told (word words 2)) refusal ran.cause
+  build_failed ScriptTooLong (Some World) ran = λ bytes is. never (IsBadBuild bytes) BadBuild BadScript (λ e. cc) (not_bad_build bytes ran.cause.0 ((ran.cause.1).0 bytes is))
+  build_failed Memory (Some World) ran = λ bytes is. by_memory (IsBadBuild bytes) BadBuild (λ e. cc)
+  build_failed _ (Some World) ran = λ bytes is. absurd ran.cause
 
-  pub block_failed : (stop : Stop) (form : Option Form) → Ran form told words reading writing before now (Err stop) → BlockClause form told words (status_of stop)
-  block_failed stop None ran = usage_alone stop BadBlock (λ e. cc) ran.0
-  block_failed (ToldStop UsageFault) (Some World) ran = λ bytes is. absurd ran.cause
-  block_failed (ToldStop Read) (Some World) ran = λ bytes is. by_read (IsBadBlock bytes) BadBlock (λ e. cc)
-  block_failed (ToldStop Write) (Some World) ran = λ bytes is. never (IsBadBlock bytes) BadBlock WriteFault (λ e. cc) (not_bad_block bytes ran.front.build (ran.front.accepted.build_is bytes is).is)
-  block_failed (ToldStop (BuildFault refusal)) (Some World) ran = block_by (told (word words 1)) (plain_refusal refusal) ran.cause
-  block_failed (ToldStop BuildTooLong) (Some World) ran = λ bytes is. never (IsBadBlock bytes) BadBlock BadBuild (λ e. cc) (λ bad. let within = bad.within in let long = ran.cause bytes is in omega arith)
-  block_failed (ToldStop (ScriptFault refusal)) (Some World) ran = block_by_script (told (word words 1)) (told (word words 2)) refusal ran.cause
-  block_failed (ToldStop ScriptTooLong) (Some World) ran = λ bytes is. never (IsBadBlock bytes) BadBlock BadScript (λ e. cc) (not_bad_block bytes ran.cause.0 ((ran.cause.1).0 bytes is).is)
-  block_failed (ToldStop Memory) (Some World) ran = λ bytes is. by_memory (IsBadBlock bytes) BadBlock (λ e. cc)
-  block_failed (ToldStop _) (Some World) ran = λ bytes is. absurd ran.cause
-  block_failed NotYet (Some World) ran = λ bytes is. never (IsBadBlock bytes) BadBlock BadBuild (λ e. cc) (not_bad_block bytes (ran.cause bytes is).1.build (ran.cause bytes is).1.is)
+  pub block_failed : (fault : Fault) (form : Option Form) → Ran form told words reading writing before now (Err fault) → BlockClause form told words (status_of fault)
+  block_failed fault None ran = usage_alone fault BadBlock (λ e. cc) ran.0
+  block_failed UsageFault (Some World) ran = λ bytes is. absurd ran.cause
+  block_failed Read (Some World) ran = λ bytes is. by_read (IsBadBlock bytes) BadBlock (λ e. cc)
+  block_failed Write (Some World) ran = λ bytes is. never (IsBadBlock bytes) BadBlock WriteFault (λ e. cc) (not_bad_block bytes ran.front.build (ran.front.accepted.build_is bytes is).is)
+  block_failed (BuildFault refusal) (Some World) ran = block_by (told (word words 1)) (plain_refusal refusal) ran.cause
+  block_failed BuildTooLong (Some World) ran = λ bytes is. never (IsBadBlock bytes) BadBlock BadBuild (λ e. cc) (λ bad. let within = bad.within in let long = ran.cause bytes is in omega arith)
+  block_failed (ScriptFault refusal) (Some World) ran = block_by_script (told (word words 1)) (told (word words 2)) refusal ran.cause
+  block_failed ScriptTooLong (Some World) ran = λ bytes is. never (IsBadBlock bytes) BadBlock BadScript (λ e. cc) (not_bad_block bytes ran.cause.0 ((ran.cause.1).0 bytes is).is)
+  block_failed Memory (Some World) ran = λ bytes is. by_memory (IsBadBlock bytes) BadBlock (λ e. cc)
+  block_failed _ (Some World) ran = λ bytes is. absurd ran.cause
 
-  pub script_failed : (stop : Stop) (form : Option Form) → Ran form told words reading writing before now (Err stop) → ScriptClause form told words (status_of stop)
-  script_failed stop None ran = usage_alone stop BadScript (λ e. cc) ran.0
-  script_failed (ToldStop UsageFault) (Some World) ran = λ build_bytes is_b bytes is_s. absurd ran.cause
-  script_failed (ToldStop Read) (Some World) ran = λ build_bytes is_b bytes is_s. by_read (IsBadScriptFor build_bytes bytes) BadScript (λ e. cc)
-  script_failed (ToldStop Write) (Some World) ran = λ build_bytes is_b bytes is_s. never (IsBadScriptFor build_bytes bytes) BadScript WriteFault (λ e. cc)
+  pub script_failed : (fault : Fault) (form : Option Form) → Ran form told words reading writing before now (Err fault) → ScriptClause form told words (status_of fault)
+  script_failed fault None ran = usage_alone fault BadScript (λ e. cc) ran.0
+  script_failed UsageFault (Some World) ran = λ build_bytes is_b bytes is_s. absurd ran.cause
+  script_failed Read (Some World) ran = λ build_bytes is_b bytes is_s. by_read (IsBadScriptFor build_bytes bytes) BadScript (λ e. cc)
+  script_failed Write (Some World) ran = λ build_bytes is_b bytes is_s. never (IsBadScriptFor build_bytes bytes) BadScript WriteFault (λ e. cc)
       (not_bad_script_for build_bytes bytes ran.front.build ran.front.script (ran.front.accepted.build_is build_bytes is_b) (ran.front.accepted.script_is bytes is_s))
-  script_failed (ToldStop (BuildFault refusal)) (Some World) ran = λ build_bytes is_b bytes is_s. script_refused (told (word words 1)) (plain_refusal refusal) ran.cause build_bytes bytes is_b
-  script_failed (ToldStop BuildTooLong) (Some World) ran = λ build_bytes is_b bytes is_s. never (IsBadScriptFor build_bytes bytes) BadScript BadBuild (λ e. cc)
+  script_failed (BuildFault refusal) (Some World) ran = λ build_bytes is_b bytes is_s. script_refused (told (word words 1)) (plain_refusal refusal) ran.cause build_bytes bytes is_b
+  script_failed BuildTooLong (Some World) ran = λ build_bytes is_b bytes is_s. never (IsBadScriptFor build_bytes bytes) BadScript BadBuild (λ e. cc)
       (λ bad. let within = (bad.1).0.within in let long = ran.cause build_bytes is_b in omega arith)
-  script_failed (ToldStop (ScriptFault refusal)) (Some World) ran = λ build_bytes is_b bytes is_s. script_by (told (word words 1)) (told (word words 2)) refusal ran.cause build_bytes bytes is_b is_s
-  script_failed (ToldStop ScriptTooLong) (Some World) ran = λ build_bytes is_b bytes is_s. here (IsBadScriptFor build_bytes bytes) BadScript (ran.cause.0, ((ran.cause.1).0 build_bytes is_b, inl ((ran.cause.1).1 bytes is_s)))
-  script_failed (ToldStop Memory) (Some World) ran = λ build_bytes is_b bytes is_s. by_memory (IsBadScriptFor build_bytes bytes) BadScript (λ e. cc)
-  script_failed (ToldStop _) (Some World) ran = λ build_bytes is_b bytes is_s. absurd ran.cause
-  script_failed NotYet (Some World) ran = λ build_bytes is_b bytes is_s. never (IsBadScriptFor build_bytes bytes) BadScript BadBuild (λ e. cc) (λ bad. same_unplayable build_bytes bad.0 (bad.1).0 (ran.cause build_bytes is_b).1)
+  script_failed (ScriptFault refusal) (Some World) ran = λ build_bytes is_b bytes is_s. script_by (told (word words 1)) (told (word words 2)) refusal ran.cause build_bytes bytes is_b is_s
+  script_failed ScriptTooLong (Some World) ran = λ build_bytes is_b bytes is_s. here (IsBadScriptFor build_bytes bytes) BadScript (ran.cause.0, ((ran.cause.1).0 build_bytes is_b, inl ((ran.cause.1).1 bytes is_s)))
+  script_failed Memory (Some World) ran = λ build_bytes is_b bytes is_s. by_memory (IsBadScriptFor build_bytes bytes) BadScript (λ e. cc)
+  script_failed _ (Some World) ran = λ build_bytes is_b bytes is_s. absurd ran.cause
 
-  pub complete_failed : (stop : Stop) (form : Option Form) → Ran form told words reading writing before now (Err stop) → CompleteClause form told words (status_of stop)
-  complete_failed stop None ran = tt
-  complete_failed (ToldStop UsageFault) (Some World) ran = λ build script build_bytes bytes is_b is_s good fit. absurd ran.cause
-  complete_failed (ToldStop Read) (Some World) ran = λ build script build_bytes bytes is_b is_s good fit. inr (inl refl)
-  complete_failed (ToldStop Write) (Some World) ran = λ build script build_bytes bytes is_b is_s good fit. inr (inr (inl refl))
-  complete_failed (ToldStop (BuildFault refusal)) (Some World) ran = λ build script build_bytes bytes is_b is_s good fit. complete_refused (told (word words 1)) (plain_refusal refusal) ran.cause build build_bytes is_b good
-  complete_failed (ToldStop BuildTooLong) (Some World) ran = λ build script build_bytes bytes is_b is_s good fit. absurd (let within = good.within in let long = ran.cause build_bytes is_b in omega arith)
-  complete_failed (ToldStop (ScriptFault refusal)) (Some World) ran = λ build script build_bytes bytes is_b is_s good fit.
+  pub complete_failed : (fault : Fault) (form : Option Form) → Ran form told words reading writing before now (Err fault) → CompleteClause form told words (status_of fault)
+  complete_failed fault None ran = tt
+  complete_failed UsageFault (Some World) ran = λ build script build_bytes bytes is_b is_s good fit. absurd ran.cause
+  complete_failed Read (Some World) ran = λ build script build_bytes bytes is_b is_s good fit. inr (inl refl)
+  complete_failed Write (Some World) ran = λ build script build_bytes bytes is_b is_s good fit. inr (inr (inl refl))
+  complete_failed (BuildFault refusal) (Some World) ran = λ build script build_bytes bytes is_b is_s good fit. complete_refused (told (word words 1)) (plain_refusal refusal) ran.cause build build_bytes is_b good
+  complete_failed BuildTooLong (Some World) ran = λ build script build_bytes bytes is_b is_s good fit. absurd (let within = good.within in let long = ran.cause build_bytes is_b in omega arith)
+  complete_failed (ScriptFault refusal) (Some World) ran = λ build script build_bytes bytes is_b is_s good fit.
       complete_by (told (word words 1)) (told (word words 2)) refusal ran.cause build script build_bytes bytes is_b is_s good fit
-  complete_failed (ToldStop ScriptTooLong) (Some World) ran = λ build script build_bytes bytes is_b is_s good fit. absurd (let within = fit.within in let long = (ran.cause.1).1 bytes is_s in omega arith)
-  complete_failed (ToldStop Memory) (Some World) ran = λ build script build_bytes bytes is_b is_s good fit. inr (inr (inr refl))
-  complete_failed (ToldStop _) (Some World) ran = λ build script build_bytes bytes is_b is_s good fit. absurd ran.cause
-  complete_failed NotYet (Some World) ran = λ build script build_bytes bytes is_b is_s good fit. absurd (same_unplayable build_bytes build good (ran.cause build_bytes is_b).1)
+  complete_failed ScriptTooLong (Some World) ran = λ build script build_bytes bytes is_b is_s good fit. absurd (let within = fit.within in let long = (ran.cause.1).1 bytes is_s in omega arith)
+  complete_failed Memory (Some World) ran = λ build script build_bytes bytes is_b is_s good fit. inr (inr (inr refl))
+  complete_failed _ (Some World) ran = λ build script build_bytes bytes is_b is_s good fit. absurd ran.cause
 
-  pub caused : (stop : Stop) (form : Option Form) → Ran form told words reading writing before now (Err stop) → CauseOf form told words reading writing stop
-  caused stop None ran = let same : ◌≡◌ {A = Result (Unit {0}) Stop} (Err stop) (Err (ToldStop UsageFault)) = ran.0 in cc
-  caused stop (Some World) ran = ran.cause
+  pub caused : (fault : Fault) (form : Option Form) → Ran form told words reading writing before now (Err fault) → CauseOf form told words reading writing fault
+  caused fault None ran = let same : ◌≡◌ {A = Result (Unit {0}) Fault} (Err fault) (Err UsageFault) = ran.0 in cc
+  caused fault (Some World) ran = ran.cause
 
 cause_not_done : (told : Option Refusal) → status_of_cause told ≡ Done → ⊥
 cause_not_done None e = cc
@@ -246,12 +227,11 @@ graph_not_done : (refusal : GraphRefusal) → status_of_graph refusal ≡ Done �
 graph_not_done NoMemoryOfGraph e = cc
 graph_not_done _ e = cc
 
-pub never_done : (stop : Stop) → status_of stop ≡ Done → ⊥
-never_done (ToldStop (BuildFault refusal)) e = cause_not_done (plain_refusal refusal) e
-never_done (ToldStop (ScriptFault refusal)) e = script_not_done refusal e
-never_done (ToldStop (Graph refusal)) e = graph_not_done refusal e
-never_done (ToldStop _) e = cc
-never_done NotYet e = cc
+pub never_done : (fault : Fault) → status_of fault ≡ Done → ⊥
+never_done (BuildFault refusal) e = cause_not_done (plain_refusal refusal) e
+never_done (ScriptFault refusal) e = script_not_done refusal e
+never_done (Graph refusal) e = graph_not_done refusal e
+never_done _ e = cc
 
 -- the line was written, or a prefix of it
 pub line_written : {T E : Type 0} (r : Result T E) (old new : ℕ) (before now : Option (List ℕ)) (line : List ℕ) → OnOk r (Wrote before now line) → OnErr r (WrotePrefix before now line) → HasCause old new r →

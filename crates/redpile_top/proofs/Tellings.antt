@@ -2,7 +2,6 @@
 use Rattle.std.proofs.Common.{◌≡◌, ◌≤◌, ◌<◌, List, ℕ, Bool, true, length, Option, Some, None, Result, Err, IfErr, sym, ap, subst, ◌∙◌}
 use Rattle.build.specs.Plan.{Plan}
 use Rattle.schematic.specs.File.{Refusal, file, IsFirstRefusal, Refuses as RefusesBuild}
-use Rattle.redpile_top.specs.Playable.{Playing}
 use Rattle.script.specs.declared.ScriptRefusal.{ScriptRefusal}
 use Rattle.script.specs.declared.ScriptRefusal.TheVariants.{Line, NoMemory as NoMemoryOfScript}
 use Rattle.script.specs.Clickable.{takes_click, is_wire_at}
@@ -36,10 +35,9 @@ longer_later name now old limit e h bytes is = h bytes (same_file name now old b
 pub within_read : (told : Option (List ℕ)) (read : List ℕ) (limit : ℕ) → length read ≤ limit → ((bytes : List ℕ) → told ≡ Some bytes → read ≡ bytes) → (bytes : List ℕ) → told ≡ Some bytes → length bytes ≤ limit
 within_read told read limit h same bytes is = subst (λ (bs : List ℕ). length bs ≤ limit) (same bytes is) h
 
-pub good_build : (b : Option (List ℕ)) (read : List ℕ) (build : Plan) (playing : Bool) → ((bytes : List ℕ) → b ≡ Some bytes → read ≡ bytes) → length read ≤ 67108864 → file read build → Playing build playing → playing ≡ true → OnTold b (IsBuild build)
-good_build b read build playing same within is plays all = λ bytes told.
+pub good_build : (b : Option (List ℕ)) (read : List ℕ) (build : Plan) → ((bytes : List ℕ) → b ≡ Some bytes → read ≡ bytes) → length read ≤ 67108864 → file read build → OnTold b (IsBuild build)
+good_build b read build same within is = λ bytes told.
     record {
       within = subst (λ (bs : List ℕ). length bs ≤ 67108864) (same bytes told) within;
       is = subst (λ (bs : List ℕ). file bs build) (same bytes told) is;
-      playable = subst (Playing build) all plays;
     }

@@ -19,9 +19,6 @@ use Rattle.redpile_top.specs.declared.form.Form.{Form}
 use Rattle.redpile_top.specs.declared.form.Form.TheVariants.{World}
 use Rattle.redpile_top.specs.declared.status.Status.{Status}
 use Rattle.redpile_top.specs.declared.status.Status.TheVariants.{Done, Usage, ReadFault, WriteFault, BadBuild, BadBlock, BadScript, BadOrder, NoMemory, BadGraph}
-use Rattle.redpile_top.specs.declared.status.Stop.{Stop}
-use Rattle.redpile_top.specs.declared.status.Stop.TheVariants.{Told as ToldStop, NotYet}
-use Rattle.redpile_top.specs.Playable.{IsPlayable, HasUnplayable}
 use Rattle.redpile_top.specs.Played.{WroteRun, WroteRunPrefix}
 
 -- ---- words
@@ -50,11 +47,10 @@ Told = List ℕ → Option (List ℕ)
 abbrev pub OnTold : Option (List ℕ) → (List ℕ → Type 0) → Type 0
 OnTold told P = (bytes : List ℕ) → told ≡ Some bytes → P bytes
 
--- The bytes are an accepted build's, whose blocks are all played.
+-- The bytes are an accepted build's.
 pub record IsBuild (build : Plan) (bytes : List ℕ) : Type 0 where
   pub within : length bytes ≤ 67108864
   pub is : file bytes build
-  pub playable : IsPlayable build
 
 -- the cause is a block that isn't known
 abbrev pub is_block : Refusal → Bool
@@ -67,15 +63,9 @@ pub record HasCauseButBlock (bytes : List ℕ) : Type 0 where
   pub other : is_block refusal ≡ false
   pub first : IsFirstRefusal bytes refusal
 
--- The bytes are those of a build with a block that isn't played yet.
-pub record IsNotYet (bytes : List ℕ) : Type 0 where
-  pub build : Plan
-  pub is : file bytes build
-  pub unplayable : HasUnplayable build
-
--- They are too many, or no build's for another cause than a block, or some block isn't played yet.
+-- They are too many, or no build's for another cause than a block.
 abbrev pub IsBadBuild : List ℕ → Type 0
-IsBadBuild bytes = (67108864 < length bytes) ⊎ (HasCauseButBlock bytes ⊎ IsNotYet bytes)
+IsBadBuild bytes = (67108864 < length bytes) ⊎ HasCauseButBlock bytes
 
 -- They are no build's, and the first cause is a block that isn't known.
 pub record IsBadBlock (bytes : List ℕ) : Type 0 where
@@ -101,7 +91,7 @@ IsBadScript build bytes = (1048576 < length bytes) ⊎ HasBadLine build bytes
 -- ---- what a command did, before its status and its line are made of it
 
 abbrev pub Ending : Type 0
-Ending = Result (Unit {0}) Stop
+Ending = Result (Unit {0}) Fault
 
 -- the build and the script are those of the two files, where they are told
 pub record Accepted (b s : Option (List ℕ)) (build : Plan) (script : Meaning) : Type 0 where
@@ -120,29 +110,25 @@ ScriptCause b s (Line line kind) = (build : Plan) × (OnTold b (IsBuild build)
     × OnTold s (λ bytes. (length bytes ≤ 1048576) × (script_of (takes_click build) (is_wire_at build) bytes ≡ Err (Line line kind))))
 
 -- When a fault may come, for the commands over a build and a script.
-abbrev pub FaultCause : (b s : Option (List ℕ)) (reading writing : Type 0) → Fault → Type 0
-FaultCause b s reading writing UsageFault = ⊥
-FaultCause b s reading writing Read = reading
-FaultCause b s reading writing Write = writing
-FaultCause b s reading writing (BuildFault refusal) = BuildCause b (plain_refusal refusal)
-FaultCause b s reading writing BuildTooLong = OnTold b (λ bytes. 67108864 < length bytes)
-FaultCause b s reading writing (ScriptFault refusal) = ScriptCause b s refusal
-FaultCause b s reading writing ScriptTooLong = (build : Plan) × (OnTold b (IsBuild build) × OnTold s (λ bytes. 1048576 < length bytes))
-FaultCause b s reading writing Memory = Unit {0}
-FaultCause b s reading writing _ = ⊥
-
-abbrev pub Cause : (b s : Option (List ℕ)) (reading writing : Type 0) → Stop → Type 0
-Cause b s reading writing (ToldStop fault) = FaultCause b s reading writing fault
-Cause b s reading writing NotYet = OnTold b (λ bytes. (length bytes ≤ 67108864) × IsNotYet bytes)
+abbrev pub Cause : (b s : Option (List ℕ)) (reading writing : Type 0) → Fault → Type 0
+Cause b s reading writing UsageFault = ⊥
+Cause b s reading writing Read = reading
+Cause b s reading writing Write = writing
+Cause b s reading writing (BuildFault refusal) = BuildCause b (plain_refusal refusal)
+Cause b s reading writing BuildTooLong = OnTold b (λ bytes. 67108864 < length bytes)
+Cause b s reading writing (ScriptFault refusal) = ScriptCause b s refusal
+Cause b s reading writing ScriptTooLong = (build : Plan) × (OnTold b (IsBuild build) × OnTold s (λ bytes. 1048576 < length bytes))
+Cause b s reading writing Memory = Unit {0}
+Cause b s reading writing _ = ⊥
 
 -- Nothing was written, but where all or a part was.
 abbrev pub ButForWrites : Ending → Type 0 → Type 0
 ButForWrites (Ok done) P = Unit {0}
-ButForWrites (Err (ToldStop Write)) P = Unit {0}
-ButForWrites (Err stop) P = P
+ButForWrites (Err Write) P = Unit {0}
+ButForWrites (Err fault) P = P
 
 abbrev pub OnWriteFault : Ending → Type 0 → Type 0
-OnWriteFault (Err (ToldStop Write)) P = P
+OnWriteFault (Err Write) P = P
 OnWriteFault ending P = Unit {0}
 
 -- It was done for a build and a script that were accepted.
@@ -161,28 +147,28 @@ pub record Ends (b s : Option (List ℕ)) (reading writing untouched : Type 0) (
 
 -- what a command wrote, by its form: `world` a run of the uncompiled world
 abbrev pub DidForm : Form → (before now : Option (List ℕ)) → Plan → Meaning → Type 0
-DidForm World before now build script = WroteRun build script.acts before now
+DidForm World before now build script = WroteRun build script before now
 
 abbrev pub BeganForm : Form → (before now : Option (List ℕ)) → Plan → Meaning → Type 0
-BeganForm World before now build script = WroteRunPrefix build script.acts before now
+BeganForm World before now build script = WroteRunPrefix build script before now
 
 -- How a call ends, by the form of its words.
 abbrev pub Ran : Option Form → Told → List (List ℕ) → (reading writing : Type 0) (before now : Option (List ℕ)) → Ending → Type 0
-Ran None told words reading writing before now ending = (ending ≡ Err (ToldStop UsageFault)) × (now ≡ before)
+Ran None told words reading writing before now ending = (ending ≡ Err UsageFault) × (now ≡ before)
 Ran (Some form) told words reading writing before now ending =
     Ends (told (word words 1)) (told (word words 2)) reading writing (now ≡ before) (DidForm form before now) (BeganForm form before now) ending
 
 -- ---- statuses and lines
 
--- a stop whose line needs no room
-abbrev pub IsConstantStop : Stop → Type 0
-IsConstantStop (ToldStop UsageFault) = Unit {0}
-IsConstantStop (ToldStop Memory) = Unit {0}
-IsConstantStop _ = ⊥
+-- a fault whose line needs no room
+abbrev pub IsConstantFault : Fault → Type 0
+IsConstantFault UsageFault = Unit {0}
+IsConstantFault Memory = Unit {0}
+IsConstantFault _ = ⊥
 
 abbrev pub IsConstant : Ending → Type 0
 IsConstant (Ok done) = Unit {0}
-IsConstant (Err stop) = IsConstantStop stop
+IsConstant (Err fault) = IsConstantFault fault
 
 -- of a first cause; want of memory has none
 abbrev pub status_of_cause : Option Refusal → Status
@@ -197,28 +183,19 @@ abbrev pub status_of_graph : GraphRefusal → Status
 status_of_graph NoMemoryOfGraph = NoMemory
 status_of_graph _ = BadGraph
 
-abbrev pub status_of_fault : Fault → Status
-status_of_fault UsageFault = Usage
-status_of_fault Read = ReadFault
-status_of_fault Write = WriteFault
-status_of_fault (BuildFault refusal) = status_of_cause (plain_refusal refusal)
-status_of_fault BuildTooLong = BadBuild
-status_of_fault (ScriptFault refusal) = status_of_script refusal
-status_of_fault ScriptTooLong = BadScript
-status_of_fault Memory = NoMemory
-status_of_fault (Order line tick kind) = BadOrder
-status_of_fault OrderTooLong = BadOrder
-status_of_fault (Graph refusal) = status_of_graph refusal
-status_of_fault GraphTooLong = BadGraph
-
-abbrev pub status_of : Stop → Status
-status_of (ToldStop fault) = status_of_fault fault
-status_of NotYet = BadBuild
-
--- the line on standard error
-abbrev pub stop_line : Stop → List ℕ
-stop_line (ToldStop fault) = fault_line fault
-stop_line NotYet = codes "redpile: build: not yet\n"
+abbrev pub status_of : Fault → Status
+status_of UsageFault = Usage
+status_of Read = ReadFault
+status_of Write = WriteFault
+status_of (BuildFault refusal) = status_of_cause (plain_refusal refusal)
+status_of BuildTooLong = BadBuild
+status_of (ScriptFault refusal) = status_of_script refusal
+status_of ScriptTooLong = BadScript
+status_of Memory = NoMemory
+status_of (Order line tick kind) = BadOrder
+status_of OrderTooLong = BadOrder
+status_of (Graph refusal) = status_of_graph refusal
+status_of GraphTooLong = BadGraph
 
 -- This answer comes exactly here: a read's fault or want of memory may stand in its place.
 pub record Exactly (P : Type 0) (answer status : Status) : Type 0 where
@@ -262,19 +239,19 @@ CompleteClause (Some World) told words status = (build : Plan) (script : Meaning
     → (status ≡ Done) ⊎ ((status ≡ ReadFault) ⊎ ((status ≡ WriteFault) ⊎ (status ≡ NoMemory)))
 
 -- The line of a fault that has its cause was written, or, only where a count rose, a prefix of it.
-pub record LineOf (cause : Stop → Type 0) (rose : Type 0) (before now : Option (List ℕ)) (status : Status) : Type 0 where
-  pub stop : Stop
-  pub stands_for : status ≡ status_of stop
-  pub has_cause : cause stop
-  pub wrote : Wrote before now (stop_line stop) ⊎ (rose × WrotePrefix before now (stop_line stop))
+pub record LineOf (cause : Fault → Type 0) (rose : Type 0) (before now : Option (List ℕ)) (status : Status) : Type 0 where
+  pub fault : Fault
+  pub stands_for : status ≡ status_of fault
+  pub has_cause : cause fault
+  pub wrote : Wrote before now (fault_line fault) ⊎ (rose × WrotePrefix before now (fault_line fault))
 
 -- When a fault may come, by the form.
-abbrev pub CauseOf : Option Form → Told → List (List ℕ) → (reading writing : Type 0) → Stop → Type 0
-CauseOf None told words reading writing stop = stop ≡ ToldStop UsageFault
-CauseOf (Some World) told words reading writing stop = Cause (told (word words 1)) (told (word words 2)) reading writing stop
+abbrev pub CauseOf : Option Form → Told → List (List ℕ) → (reading writing : Type 0) → Fault → Type 0
+CauseOf None told words reading writing fault = fault ≡ UsageFault
+CauseOf (Some World) told words reading writing fault = Cause (told (word words 1)) (told (word words 2)) reading writing fault
 
 -- Each status but Done writes one line to `err`, and Done writes nothing there.
-pub record LineClause (cause : Stop → Type 0) (rose : Type 0) (before now : Option (List ℕ)) (status : Status) : Type 0 where
+pub record LineClause (cause : Fault → Type 0) (rose : Type 0) (before now : Option (List ℕ)) (status : Status) : Type 0 where
   pub none : status ≡ Done → now ≡ before
   pub line : (status ≡ Done → ⊥) → LineOf cause rose before now status
 

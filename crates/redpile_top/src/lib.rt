@@ -3,13 +3,12 @@
 
 mod form;
 mod play;
-mod playable;
-mod power_rules;
+#[cfg(test)]
+mod row_tests;
 mod status;
 #[cfg(test)]
 mod tests;
 mod top;
-mod world_engine;
 
 pub use status::Status;
 pub use top::redpile;

@@ -6,17 +6,20 @@ ghost use Rattle.circuit.specs.Circuit.{view, start};
 ghost use Rattle.report.specs.ViewLine.{view_line};
 ghost use Rattle.report.specs.Trailers.{world_trailer};
 ghost use Rattle.redpile_top.specs.Moments.{moment_after};
-ghost use Rattle.redpile_top.specs.World.{world_circuit, state_in};
-ghost use Rattle.redpile_top.specs.Played.{StepTo, TakenStep, IsScriptFor, header_of, WroteRun, WroteRunPrefix};
+ghost use Rattle.script.specs.Clickable.{takes_click, is_wire_at};
+ghost use Rattle.script.specs.Fit.{IsFit};
+ghost use Rattle.power_rules.specs.World.{world_circuit};
+ghost use Rattle.world_engine.specs.Running.{state_in};
+ghost use Rattle.redpile_top.specs.Played.{StepTo, TakenStep, header_of, WroteRun, WroteRunPrefix};
 
-use crate::world_engine::World;
-use build::{Build, Marks, outputs};
+use build::{Build, outputs};
 use circuit::Step;
 use report::{Cause, LineBuf, push_header, push_trailer, push_view};
 use rp_io::{Sink, WriteFault, put_all};
 use rp_text::NoMemory;
 use script::Script;
 use std::alloc::Global;
+use world_engine::World;
 
 /// Why a run wasn't written whole.
 #[derive(Clone, Copy, PartialEq, Eq, Debug)]
@@ -36,11 +39,11 @@ fn put_view<O: Sink>(
     values: &mut [u8],
     line: &mut LineBuf,
 ) -> Result<(), WriteFault>
-    requires values { length values.old ≡ length (world_circuit world.now.plan).shown }
+    requires values { length values.old ≡ length (world_circuit world.now.plan world.now.marks).shown }
     requires room { 96 + 3 * length values.old ≤ line.old.room }
     ensures room { line.new.room ≡ line.old.room }
-    ensures all { OnOk result (Wrote (O.written out.old) (O.written out.new) (view_line world.now.time cause (view (world_circuit world.now.plan) (state_in world.now)))) }
-    ensures front { OnErr result (WrotePrefix (O.written out.old) (O.written out.new) (view_line world.now.time cause (view (world_circuit world.now.plan) (state_in world.now)))) }
+    ensures all { OnOk result (Wrote (O.written out.old) (O.written out.new) (view_line world.now.time cause (view (world_circuit world.now.plan world.now.marks) (state_in world.now)))) }
+    ensures front { OnErr result (WrotePrefix (O.written out.old) (O.written out.new) (view_line world.now.time cause (view (world_circuit world.now.plan world.now.marks) (state_in world.now)))) }
     ensures cause { HasCause (O.faults out.old) (O.faults out.new) result }
 {
     line.clear();
@@ -64,10 +67,11 @@ fn put_trailer<O: Sink>(out: &mut O, line: &mut LineBuf) -> Result<(), WriteFaul
 /// Takes a step, and gives the cause of the view after it.
 fn take_step(world: &mut World, step: Step) -> Cause
     requires early { world.old.time < 2 ^ 62 }
-    requires taken { TakenStep (world_circuit world.old.plan) step }
+    requires taken { TakenStep (world_circuit world.old.plan world.old.marks) step }
     ensures plan { world.new.plan ≡ world.old.plan }
+    ensures marks { world.new.marks ≡ world.old.marks }
     ensures moment { moment_after world.old.time step ≡ record { time = world.new.time; cause = result } }
-    ensures step { StepTo (world_circuit world.old.plan) step (state_in world.old) (state_in world.new) }
+    ensures step { StepTo (world_circuit world.old.plan world.old.marks) step (state_in world.old) (state_in world.new) }
 {
     match step {
         Step::Click { pos, click } => {
@@ -93,14 +97,15 @@ fn put_run<O: Sink>(
     line: &mut LineBuf,
     out: &mut O,
 ) -> Result<(), WriteFault>
-    requires header { header.now ≡ header_of world.old.plan }
-    requires script { IsScriptFor world.old.plan script.now.acts }
+    requires header { header.now ≡ header_of world.old.plan world.old.marks }
+    requires marks { world.old.marks ≡ script.now.marks }
+    requires script { IsFit (takes_click world.old.plan) (is_wire_at world.old.plan) script.now }
     requires time { world.old.time ≡ 0 }
-    requires start { state_in world.old ≡ start (world_circuit world.old.plan) }
-    requires values { length values.old ≡ length (world_circuit world.old.plan).shown }
+    requires start { state_in world.old ≡ start (world_circuit world.old.plan world.old.marks) }
+    requires values { length values.old ≡ length (world_circuit world.old.plan world.old.marks).shown }
     requires room { 96 + 3 * length values.old ≤ line.old.room }
-    ensures done { OnOk result (WroteRun world.old.plan script.now.acts (O.written out.old) (O.written out.new)) }
-    ensures front { OnErr result (WroteRunPrefix world.old.plan script.now.acts (O.written out.old) (O.written out.new)) }
+    ensures done { OnOk result (WroteRun world.old.plan script.now (O.written out.old) (O.written out.new)) }
+    ensures front { OnErr result (WroteRunPrefix world.old.plan script.now (O.written out.old) (O.written out.new)) }
     ensures cause { HasCause (O.faults out.old) (O.faults out.new) result }
 {
     put_all(out, header)?;
@@ -137,19 +142,19 @@ pub fn play_world<O: Sink>(
     script: &Script,
     out: &mut O,
 ) -> Result<(), PlayRefusal>
-    requires { IsScriptFor build.now script.now.acts }
-    ensures done { OnOk result (WroteRun build.now script.now.acts (O.written out.old) (O.written out.new)) }
-    ensures front { IsErrOf result PlayRefusal.WriteFault → WroteRunPrefix build.now script.now.acts (O.written out.old) (O.written out.new) }
+    requires { IsFit (takes_click build.now) (is_wire_at build.now) script.now }
+    ensures done { OnOk result (WroteRun build.now script.now (O.written out.old) (O.written out.new)) }
+    ensures front { IsErrOf result PlayRefusal.WriteFault → WroteRunPrefix build.now script.now (O.written out.old) (O.written out.new) }
     ensures fault { IsErrOf result PlayRefusal.WriteFault → Rose (O.faults out.old) (O.faults out.new) }
     ensures nothing { IsErrOf result PlayRefusal.NoMemory → O.written out.new ≡ O.written out.old }
     ensures later { O.faults out.old ≤ O.faults out.new }
 {
-    let places = outputs(alloc, build, &Marks::new(alloc))?;
+    let places = outputs(alloc, build, script.marks())?;
     let mut header = Vec::new(alloc);
     push_header(&mut header, &places)?;
     let mut line = LineBuf::new(alloc, LINE_ROOM + 3 * places.len())?;
     let mut values = zeros(alloc, places.len())?;
-    let mut world = World::start(alloc, build)?;
+    let mut world = World::start(alloc, build, script.marks())?;
     match put_run(
         &header,
         script,

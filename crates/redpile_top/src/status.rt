@@ -2,7 +2,7 @@
 
 ghost use Rattle.std.specs.Prelude.{◌≡◌};
 ghost use Rattle.schematic.specs.File.{plain_refusal};
-ghost use Rattle.redpile_top.specs.Clauses.{status_of, status_of_cause, status_of_fault, status_of_graph, status_of_script};
+ghost use Rattle.redpile_top.specs.Clauses.{status_of, status_of_cause, status_of_graph, status_of_script};
 ghost use Rattle.redpile_top.specs.Statuses.{code_of};
 
 use report::{Fault, GraphRefusal};
@@ -54,15 +54,6 @@ impl Status {
     }
 }
 
-/// Why a call ended before it was done.
-#[derive(Drop)]
-pub enum Stop {
-    /// A fault of the files, the sinks, the words or the memory.
-    Told { fault: Fault },
-    /// The build has a block that isn't played yet.
-    NotYet,
-}
-
 fn status_of_build(refusal: &BuildRefusal) -> Status
     ensures { result ≡ status_of_cause (plain_refusal refusal.now) }
 {
@@ -91,8 +82,9 @@ fn status_of_graph(refusal: GraphRefusal) -> Status
     }
 }
 
-fn status_of_fault(fault: &Fault) -> Status
-    ensures { result ≡ status_of_fault fault.now }
+/// The status that a fault stands for.
+pub fn status_of(fault: &Fault) -> Status
+    ensures { result ≡ status_of fault.now }
 {
     match fault {
         Fault::Usage => Status::Usage,
@@ -106,15 +98,5 @@ fn status_of_fault(fault: &Fault) -> Status
         Fault::Order { .. } | Fault::OrderTooLong => Status::BadOrder,
         Fault::Graph { refusal } => status_of_graph(*refusal),
         Fault::GraphTooLong => Status::BadGraph,
-    }
-}
-
-/// The status that a stop stands for.
-pub fn status_of(stop: &Stop) -> Status
-    ensures { result ≡ status_of stop.now }
-{
-    match stop {
-        Stop::Told { fault } => status_of_fault(fault),
-        Stop::NotYet => Status::BadBuild,
     }
 }

@@ -90,10 +90,10 @@ fn lever_and_lamp_file(alloc: Global) -> Result<Vec<u8>, Fail> {
 
 /// What a call met and left.
 #[derive(Drop)]
-struct Outcome {
-    status: Status,
-    out: Vec<u8>,
-    err: Vec<u8>,
+pub(crate) struct Outcome {
+    pub(crate) status: Status,
+    pub(crate) out: Vec<u8>,
+    pub(crate) err: Vec<u8>,
     read: u64,
     written: u64,
     watched: u64,
@@ -101,7 +101,7 @@ struct Outcome {
 
 /// The calls that fail, the size of the pieces that are taken, and the name that is watched.
 #[derive(Clone, Copy)]
-struct Faults<'a> {
+pub(crate) struct Faults<'a> {
     read: &'a [u64],
     out: &'a [u64],
     err: &'a [u64],
@@ -109,7 +109,7 @@ struct Faults<'a> {
     watch: &'a str,
 }
 
-const NONE: Faults<'static> = Faults {
+pub(crate) const NONE: Faults<'static> = Faults {
     read: &[],
     out: &[],
     err: &[],
@@ -171,7 +171,12 @@ fn call(
     })
 }
 
-fn world(alloc: Global, build: &[u8], script: &[u8], faults: Faults) -> Result<Outcome, Fail> {
+pub(crate) fn world(
+    alloc: Global,
+    build: &[u8],
+    script: &[u8],
+    faults: Faults,
+) -> Result<Outcome, Fail> {
     call(
         alloc,
         &["world", "a", "b"],
@@ -430,20 +435,6 @@ fn unknown_block(rt: HostRuntime) -> Result<(), Fail> {
     let file = box_of(alloc, 3, &palette, &[0, 1, 2])?;
     let line = b"redpile: block: minecraft:observer[facing=up]\n";
     assert!(rt; refuses(alloc, &file, Status::BadBlock, line)?);
-    Ok(())
-}
-
-/// A build that is accepted, with a block that isn't played yet.
-#[test]
-fn not_yet(rt: HostRuntime) -> Result<(), Fail> {
-    let alloc = rt.alloc();
-    for text in ["redstone_wire", "repeater", "comparator", "iron_trapdoor"] {
-        let file = row_of(alloc, &[LEVER, text])?;
-        assert!(rt;
-            is_bad(alloc, &file, b"redpile: build: not yet\n")?,
-            "{text}"
-        );
-    }
     Ok(())
 }
 

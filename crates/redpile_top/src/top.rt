@@ -4,13 +4,14 @@ ghost use Rattle.std.specs.Prelude.{◌≡◌, ◌≢◌, ◌↔◌, ◌≤◌, 
 ghost use Rattle.rp_io.specs.Causes.{Rose, HasCause, Wrote, WrotePrefix};
 ghost use Rattle.report.specs.FaultLine.{fault_line, block_line_begin, block_name, newline};
 ghost use Rattle.report.specs.RoomyText.{empty_text};
-ghost use Rattle.redpile_top.specs.Played.{IsScriptFor, WroteRun, WroteRunPrefix};
-ghost use Rattle.redpile_top.specs.Clauses.{Accepted, Cause, Ends, Ran, form_of, word, stop_line, IsConstant, IsConstantStop, AskedClause, BuildClause, BlockClause, ScriptClause, DoneClause, FrontClause, CompleteClause, LineClause, CauseOf};
+ghost use Rattle.script.specs.Clickable.{takes_click, is_wire_at};
+ghost use Rattle.script.specs.Fit.{IsFit};
+ghost use Rattle.redpile_top.specs.Played.{WroteRun, WroteRunPrefix};
+ghost use Rattle.redpile_top.specs.Clauses.{Accepted, Cause, Ends, Ran, form_of, word, IsConstant, IsConstantFault, AskedClause, BuildClause, BlockClause, ScriptClause, DoneClause, FrontClause, CompleteClause, LineClause, CauseOf};
 
 use crate::form::{Form, form_of, word};
 use crate::play::{PlayRefusal, play_world};
-use crate::playable::all_playable;
-use crate::status::{Status, Stop, status_of};
+use crate::status::{Status, status_of};
 use build::Build;
 use report::{Fault, LineBuf, push_fault};
 use rp_io::{Inputs, ReadRefusal, Sink, WriteFault, put_all, read_whole};
@@ -27,48 +28,39 @@ const SCRIPT_LIMIT: u64 = 1_048_576;
 /// Room for the line of every fault but for the name of a block.
 const FAULT_ROOM: usize = 128;
 
-fn told<T>(fault: Fault) -> Result<T, Stop>
-    ensures { result ≡ Err (Stop.Told fault) }
-{
-    Err(Stop::Told { fault })
-}
-
 /// Reads a build and a script, in this order.
 fn accepted<I: Inputs>(
     alloc: Global,
     inputs: &mut I,
     build: &str,
     script: &str,
-) -> Result<(Build, Script), Stop>
+) -> Result<(Build, Script), Fault>
     ensures files { I.file inputs.new ≡ I.file inputs.old }
     ensures asked { (name : List ℕ) → name ≢ build.now → name ≢ script.now → I.asked inputs.new name ≡ I.asked inputs.old name }
     ensures later { I.faults inputs.old ≤ I.faults inputs.new }
     ensures ok { IfOk result (λ found. Accepted (I.file inputs.old build.now) (I.file inputs.old script.now) found.0 found.1) }
-    ensures script { IfOk result (λ found. IsScriptFor found.0 found.1.acts) }
+    ensures script { IfOk result (λ found. IsFit (takes_click found.0) (is_wire_at found.0) found.1) }
     ensures cause { IfErr result (Cause (I.file inputs.old build.now) (I.file inputs.old script.now) (Rose (I.faults inputs.old) (I.faults inputs.new)) ⊥) }
 {
     let bytes = match read_whole(alloc, inputs, build, BUILD_LIMIT) {
         Ok(bytes) => bytes,
-        Err(ReadRefusal::ReadFault) => return told(Fault::Read),
-        Err(ReadRefusal::TooLong) => return told(Fault::BuildTooLong),
-        Err(ReadRefusal::NoMemory) => return told(Fault::Memory),
+        Err(ReadRefusal::ReadFault) => return Err(Fault::Read),
+        Err(ReadRefusal::TooLong) => return Err(Fault::BuildTooLong),
+        Err(ReadRefusal::NoMemory) => return Err(Fault::Memory),
     };
     let build = match read_build(alloc, &bytes) {
         Ok(build) => build,
-        Err(refusal) => return told(Fault::Build { refusal }),
+        Err(refusal) => return Err(Fault::Build { refusal }),
     };
-    if !all_playable(&build) {
-        return Err(Stop::NotYet);
-    }
     let bytes = match read_whole(alloc, inputs, script, SCRIPT_LIMIT) {
         Ok(bytes) => bytes,
-        Err(ReadRefusal::ReadFault) => return told(Fault::Read),
-        Err(ReadRefusal::TooLong) => return told(Fault::ScriptTooLong),
-        Err(ReadRefusal::NoMemory) => return told(Fault::Memory),
+        Err(ReadRefusal::ReadFault) => return Err(Fault::Read),
+        Err(ReadRefusal::TooLong) => return Err(Fault::ScriptTooLong),
+        Err(ReadRefusal::NoMemory) => return Err(Fault::Memory),
     };
     match read_script(alloc, &bytes, &build) {
         Ok(script) => Ok((build, script)),
-        Err(refusal) => told(Fault::Script { refusal }),
+        Err(refusal) => Err(Fault::Script { refusal }),
     }
 }
 
@@ -79,20 +71,20 @@ fn world<I: Inputs, O: Sink>(
     build: &str,
     script: &str,
     out: &mut O,
-) -> Result<(), Stop>
+) -> Result<(), Fault>
     ensures asked { (name : List ℕ) → name ≢ build.now → name ≢ script.now → I.asked inputs.new name ≡ I.asked inputs.old name }
     ensures ends { Ends (I.file inputs.old build.now) (I.file inputs.old script.now) (Rose (I.faults inputs.old) (I.faults inputs.new))
         (Rose (O.faults out.old) (O.faults out.new)) (O.written out.new ≡ O.written out.old)
-        (λ build script. WroteRun build script.acts (O.written out.old) (O.written out.new)) (λ build script. WroteRunPrefix build script.acts (O.written out.old) (O.written out.new)) result }
+        (λ build script. WroteRun build script (O.written out.old) (O.written out.new)) (λ build script. WroteRunPrefix build script (O.written out.old) (O.written out.new)) result }
 {
     let (build, script) = match accepted(alloc, inputs, build, script) {
         Ok(found) => found,
-        Err(stop) => return Err(stop),
+        Err(fault) => return Err(fault),
     };
     match play_world(alloc, &build, &script, out) {
         Ok(()) => Ok(()),
-        Err(PlayRefusal::WriteFault) => told(Fault::Write),
-        Err(PlayRefusal::NoMemory) => told(Fault::Memory),
+        Err(PlayRefusal::WriteFault) => Err(Fault::Write),
+        Err(PlayRefusal::NoMemory) => Err(Fault::Memory),
     }
 }
 
@@ -103,20 +95,20 @@ fn run<I: Inputs, O: Sink>(
     words: &[String],
     inputs: &mut I,
     out: &mut O,
-) -> (Result<(), Stop>, Option<LineBuf>)
+) -> (Result<(), Fault>, Option<LineBuf>)
     ensures asked { let names = map string_bytes words.now in AskedClause (form_of names) names (I.asked inputs.old) (I.asked inputs.new) }
     ensures ran { let names = map string_bytes words.now in Ran (form_of names) (I.file inputs.old) names
         (Rose (I.faults inputs.old) (I.faults inputs.new)) (Rose (O.faults out.old) (O.faults out.new)) (O.written out.old) (O.written out.new) result.0 }
     ensures room { MatchOption result.1 (IsConstant result.0) (λ line. line ≡ empty_text 128) }
 {
     match form_of(words) {
-        None => (told(Fault::Usage), None),
+        None => (Err(Fault::Usage), None),
         Some(Form::World) => match LineBuf::new(alloc, FAULT_ROOM) {
             Ok(line) => {
                 let ending = world(alloc, inputs, word(words, 1), word(words, 2), out);
                 (ending, Some(line))
             }
-            Err(_) => (told(Fault::Memory), None),
+            Err(_) => (Err(Fault::Memory), None),
         },
     }
 }
@@ -162,47 +154,40 @@ fn put_fault<E: Sink>(err: &mut E, line: &mut LineBuf, fault: &Fault) -> Result<
     }
 }
 
-/// Writes the line of a stop for which there is no room.
+/// Writes the line of a fault for which there is no room.
 #[tactic(auto, unfolding(report::specs::FaultLine::fault_line))]
-fn put_constant<E: Sink>(err: &mut E, stop: &Stop) -> Result<(), WriteFault>
-    requires { IsConstantStop stop.now }
-    ensures all { OnOk result (Wrote (E.written err.old) (E.written err.new) (stop_line stop.now)) }
-    ensures front { OnErr result (WrotePrefix (E.written err.old) (E.written err.new) (stop_line stop.now)) }
+fn put_constant<E: Sink>(err: &mut E, fault: &Fault) -> Result<(), WriteFault>
+    requires { IsConstantFault fault.now }
+    ensures all { OnOk result (Wrote (E.written err.old) (E.written err.new) (fault_line fault.now)) }
+    ensures front { OnErr result (WrotePrefix (E.written err.old) (E.written err.new) (fault_line fault.now)) }
     ensures cause { HasCause (E.faults err.old) (E.faults err.new) result }
 {
-    match stop {
-        Stop::Told { fault } => match fault {
-            Fault::Usage => put_all(err, b"redpile: usage\n"),
-            Fault::Memory => put_all(err, b"redpile: out of memory\n"),
-            _ => unreachable!(),
-        },
-        Stop::NotYet => unreachable!(),
+    match fault {
+        Fault::Usage => put_all(err, b"redpile: usage\n"),
+        Fault::Memory => put_all(err, b"redpile: out of memory\n"),
+        _ => unreachable!(),
     }
 }
 
-/// Writes the line of a stop, in this room if there is any.
-fn put_stop<E: Sink>(err: &mut E, room: Option<LineBuf>, stop: &Stop) -> Result<(), WriteFault>
-    requires { MatchOption room (IsConstantStop stop.now) (λ line. line ≡ empty_text 128) }
-    ensures all { OnOk result (Wrote (E.written err.old) (E.written err.new) (stop_line stop.now)) }
-    ensures front { OnErr result (WrotePrefix (E.written err.old) (E.written err.new) (stop_line stop.now)) }
+/// Writes the line of a fault, in this room if there is any.
+fn put_line<E: Sink>(err: &mut E, room: Option<LineBuf>, fault: &Fault) -> Result<(), WriteFault>
+    requires { MatchOption room (IsConstantFault fault.now) (λ line. line ≡ empty_text 128) }
+    ensures all { OnOk result (Wrote (E.written err.old) (E.written err.new) (fault_line fault.now)) }
+    ensures front { OnErr result (WrotePrefix (E.written err.old) (E.written err.new) (fault_line fault.now)) }
     ensures cause { HasCause (E.faults err.old) (E.faults err.new) result }
 {
     let Some(room) = room else {
-        return put_constant(err, stop);
+        return put_constant(err, fault);
     };
     let mut line = room;
-    match stop {
-        Stop::Told { fault } => put_fault(err, &mut line, fault),
-        Stop::NotYet => put_all(err, b"redpile: build: not yet\n"),
-    }
+    put_fault(err, &mut line, fault)
 }
 
 /// The whole program over its words, which don't include its own name, its files and its two
 /// sinks: standard output and standard error.
 ///
 /// `world BUILD SCRIPT` reads a build and a script and writes what the build shows: the header, a
-/// line for each view, and the trailer. A build with a block that isn't played yet is refused.
-/// Any other words are Usage.
+/// line for each view, and the trailer. Any other words are Usage.
 pub fn redpile<I: Inputs, O: Sink, E: Sink>(
     alloc: Global,
     words: &[String],
@@ -228,10 +213,10 @@ pub fn redpile<I: Inputs, O: Sink, E: Sink>(
     let (ending, room) = run(alloc, words, inputs, out);
     match ending {
         Ok(()) => Status::Done,
-        Err(stop) => {
+        Err(fault) => {
             // A fault of `err` changes nothing.
-            let _line = put_stop(err, room, &stop);
-            status_of(&stop)
+            let _line = put_line(err, room, &fault);
+            status_of(&fault)
         }
     }
 }

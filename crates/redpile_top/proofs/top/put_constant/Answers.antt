@@ -1,16 +1,9 @@
 use Rattle.std.proofs.Common.{◌≡◌, refl, sym, ap, subst, ◌∙◌, codes}
 use Rattle.std.specs.Prelude.{OnOk}
 use Rattle.rp_io.specs.Causes.{Wrote}
-use Rattle.report.specs.declared.Fault.{Fault}
 use Rattle.report.specs.declared.Fault.TheVariants.{Usage, Memory}
 use Rattle.report.specs.FaultLine.{fault_line}
-use Rattle.redpile_top.specs.declared.status.Stop.{Stop}
-use Rattle.redpile_top.specs.declared.status.Stop.TheVariants.{Told}
-use Rattle.redpile_top.specs.Clauses.{stop_line}
 use Rattle.redpile_top.proofs.top.put_constant.Goals as goal
-
-told_line : (stop : Stop) (fault fault' : Fault) → stop ≡ Told fault → fault ≡ fault' → fault_line fault' ≡ stop_line stop
-told_line stop fault fault' is same = sym (ap stop_line is ∙ ap fault_line same)
 
 usage_text : codes "redpile: usage\n" ≡ fault_line Usage
 unfolding fault_line
@@ -22,8 +15,8 @@ memory_text = refl
 
 pub returns-in-Usage-clause-all : goal.returns-in-Usage-clause-all
 returns-in-Usage-clause-all g c =
-    subst (λ text. OnOk c.put_all.result (Wrote (g.E.Sink.written c.args.err.now) (g.E.Sink.written c.put_all.new.sink) text)) (usage_text ∙ told_line c.args.stop.now _ _ c.in-Told.is c.in-Usage.is) c.put_all.ensures.all
+    subst (λ text. OnOk c.put_all.result (Wrote (g.E.Sink.written c.args.err.now) (g.E.Sink.written c.put_all.new.sink) text)) (usage_text ∙ sym (ap fault_line c.in-Usage.is)) c.put_all.ensures.all
 
 pub returns-in-Memory-clause-all : goal.returns-in-Memory-clause-all
 returns-in-Memory-clause-all g c =
-    subst (λ text. OnOk c.put_all-in-Memory.result (Wrote (g.E.Sink.written c.args.err.now) (g.E.Sink.written c.put_all-in-Memory.new.sink) text)) (memory_text ∙ told_line c.args.stop.now _ _ c.in-Told.is c.in-Memory.is) c.put_all-in-Memory.ensures.all
+    subst (λ text. OnOk c.put_all-in-Memory.result (Wrote (g.E.Sink.written c.args.err.now) (g.E.Sink.written c.put_all-in-Memory.new.sink) text)) (memory_text ∙ sym (ap fault_line c.in-Memory.is)) c.put_all-in-Memory.ensures.all

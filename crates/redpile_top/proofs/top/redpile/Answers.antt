@@ -27,40 +27,40 @@ returns-in-Err-clause-build g c =
     let names = map string_bytes c.args.words.now in
     let told = g.I.Inputs.file c.args.inputs.now in
     subst (λ (s : Status). BuildClause (form_of names) told names s) (sym c.status_of.ensures)
-    (build_failed told names _ _ _ _ c.in-Err.stop (form_of names) (subst (Ran (form_of names) told names _ _ _ _) c.in-Err.is c.run-ending.ensures.ran))
+    (build_failed told names _ _ _ _ c.in-Err.fault (form_of names) (subst (Ran (form_of names) told names _ _ _ _) c.in-Err.is c.run-ending.ensures.ran))
 
 pub returns-in-Err-clause-block : goal.returns-in-Err-clause-block
 returns-in-Err-clause-block g c =
     let names = map string_bytes c.args.words.now in
     let told = g.I.Inputs.file c.args.inputs.now in
     subst (λ (s : Status). BlockClause (form_of names) told names s) (sym c.status_of.ensures)
-    (block_failed told names _ _ _ _ c.in-Err.stop (form_of names) (subst (Ran (form_of names) told names _ _ _ _) c.in-Err.is c.run-ending.ensures.ran))
+    (block_failed told names _ _ _ _ c.in-Err.fault (form_of names) (subst (Ran (form_of names) told names _ _ _ _) c.in-Err.is c.run-ending.ensures.ran))
 
 pub returns-in-Err-clause-script : goal.returns-in-Err-clause-script
 returns-in-Err-clause-script g c =
     let names = map string_bytes c.args.words.now in
     let told = g.I.Inputs.file c.args.inputs.now in
     subst (λ (s : Status). ScriptClause (form_of names) told names s) (sym c.status_of.ensures)
-    (script_failed told names _ _ _ _ c.in-Err.stop (form_of names) (subst (Ran (form_of names) told names _ _ _ _) c.in-Err.is c.run-ending.ensures.ran))
+    (script_failed told names _ _ _ _ c.in-Err.fault (form_of names) (subst (Ran (form_of names) told names _ _ _ _) c.in-Err.is c.run-ending.ensures.ran))
 
 pub returns-in-Err-clause-complete : goal.returns-in-Err-clause-complete
 returns-in-Err-clause-complete g c =
     let names = map string_bytes c.args.words.now in
     let told = g.I.Inputs.file c.args.inputs.now in
     subst (λ (s : Status). CompleteClause (form_of names) told names s) (sym c.status_of.ensures)
-    (complete_failed told names _ _ _ _ c.in-Err.stop (form_of names) (subst (Ran (form_of names) told names _ _ _ _) c.in-Err.is c.run-ending.ensures.ran))
+    (complete_failed told names _ _ _ _ c.in-Err.fault (form_of names) (subst (Ran (form_of names) told names _ _ _ _) c.in-Err.is c.run-ending.ensures.ran))
 
 pub returns-in-Err-clause-line : goal.returns-in-Err-clause-line
 returns-in-Err-clause-line g c =
     let names = map string_bytes c.args.words.now in
     let told = g.I.Inputs.file c.args.inputs.now in
-    let stop = c.in-Err.stop in
+    let fault = c.in-Err.fault in
     record {
-      none = λ e. absurd (never_done stop (sym c.status_of.ensures ∙ e));
+      none = λ e. absurd (never_done fault (sym c.status_of.ensures ∙ e));
       line = λ h. record {
-        stop = stop;
+        fault = fault;
         stands_for = c.status_of.ensures;
-        has_cause = caused told names _ _ _ _ stop (form_of names) (subst (Ran (form_of names) told names _ _ _ _) c.in-Err.is c.run-ending.ensures.ran);
-        wrote = line_written c.put_stop-line.result _ _ _ _ _ c.put_stop-line.ensures.all c.put_stop-line.ensures.front c.put_stop-line.ensures.cause;
+        has_cause = caused told names _ _ _ _ fault (form_of names) (subst (Ran (form_of names) told names _ _ _ _) c.in-Err.is c.run-ending.ensures.ran);
+        wrote = line_written c.put_line-line.result _ _ _ _ _ c.put_line-line.ensures.all c.put_line-line.ensures.front c.put_line-line.ensures.cause;
       };
     }

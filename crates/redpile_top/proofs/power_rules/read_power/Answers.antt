@@ -1,5 +1,0 @@
-use Rattle.build.specs.Near.{near_next}
-use Rattle.redpile_top.proofs.power_rules.read_power.Goals as goal
-
-pub charge-requires : goal.charge-requires
-charge-requires g c = near_next _ c.args.side c.args.reader c.args.build.now c.beside-neighbour.ensures c.requires c.width.ensures.narrow

@@ -1,0 +1,3 @@
+pub mod Running
+pub mod Wires
+pub use Rattle.power_rules.specs.World

@@ -1,0 +1,12 @@
+//! A build that runs: its state after the start, after each click and after each tick.
+#![tactic(auto)]
+
+mod events;
+mod sight;
+mod stored;
+#[cfg(test)]
+mod tests;
+mod wires;
+mod world;
+
+pub use world::World;

@@ -1,0 +1,1 @@
+//! Rows of worked builds, played by the calls of World.

@@ -1,0 +1,139 @@
+//! A build that runs.
+
+ghost use Rattle.std.specs.Prelude.{◌≡◌, All, ◌≤◌, ◌<◌, ◌+◌, ◌^◌, List, OnOk, OnErr, IfOk, length};
+ghost use Rattle.circuit.specs.declared.Pos.{Pos};
+ghost use Rattle.circuit.specs.Circuit.{view, start, Clicks, Ticks};
+ghost use Rattle.circuit.specs.Taken.{Takes};
+ghost use Rattle.power_rules.specs.World.{world_circuit};
+
+use crate::events::{attend_into, fire_due, take_click, view_into};
+use crate::stored::stored_cells;
+use crate::wires::solve;
+use build::{Build, ClickRefusal, Marks, OutPlace, outputs};
+use circuit::{Cell, Click, Pos};
+use rp_text::NoMemory;
+use std::alloc::Global;
+use std::marker::Model;
+
+/// A build that runs.
+#[derive(Drop)]
+pub struct World {
+    build: Build,
+    marks: Marks,
+    places: Vec<OutPlace>,
+    cells: Vec<Cell>,
+    next: Vec<Cell>,
+    powers: Vec<u8>,
+    time: u64,
+}
+
+impl Model for World {
+    ghost use Rattle.world_engine.specs.Running.{Running, IsRunning};
+
+    ghost Value = { Running };
+
+    ghost view = { λ w. record { plan = w.build; marks = w.marks; time = w.time; cells = w.cells.items } };
+
+    ghost invariant = { λ w. IsRunning w.build w.marks w.places.items w.cells.items w.next.items w.powers.items w.time };
+}
+
+impl World {
+    ghost use Rattle.world_engine.specs.Running.{state_in};
+
+    /// The build as it starts: what it stores, after all have attended once. It takes the memory
+    /// of the whole run.
+    pub fn start(alloc: Global, build: &Build, marks: &Marks) -> Result<World, NoMemory>
+        ensures plan { IfOk result (λ world. world.plan ≡ build.now) }
+        ensures marks { IfOk result (λ world. world.marks ≡ marks.now) }
+        ensures start { IfOk result (λ world. state_in world ≡ start (world_circuit build.now marks.now)) }
+    {
+        let build = build.copy()?;
+        let marks = marks.copy()?;
+        let places = outputs(alloc, &build, &marks)?;
+        let mut powers = vec![in alloc; 0u8; build.cells()]?;
+        let next = stored_cells(alloc, &build, &marks)?;
+        let mut cells = stored_cells(alloc, &build, &marks)?;
+        solve(&build, &marks, &next, &mut powers);
+        attend_into(&build, &marks, 0, &powers, &next, &mut cells);
+        Ok(World {
+            build,
+            marks,
+            places,
+            cells,
+            next,
+            powers,
+            time: 0,
+        })
+    }
+
+    /// One click. It is refused where no component of the place takes it.
+    pub fn click(&mut self, pos: Pos, click: Click) -> Result<(), ClickRefusal>
+        ensures taken { OnOk result (Clicks (world_circuit self.old.plan self.old.marks) pos click (state_in self.old) (state_in self.new)) }
+        ensures refused { OnErr result (Takes (world_circuit self.old.plan self.old.marks) pos click → ⊥) }
+        ensures same { OnErr result (self.new ≡ self.old) }
+        ensures plan { self.new.plan ≡ self.old.plan }
+        ensures marks { self.new.marks ≡ self.old.marks }
+        ensures time { self.new.time ≡ self.old.time }
+    {
+        take_click(
+            &self.build,
+            &self.marks,
+            self.time,
+            &mut self.cells,
+            &mut self.next,
+            &mut self.powers,
+            pos,
+            click,
+        )
+    }
+
+    /// One tick: the time rises by one, and what is due then fires, one by one, by rising priority.
+    pub fn tick(&mut self)
+        requires { self.old.time < 2 ^ 62 }
+        ensures plan { self.new.plan ≡ self.old.plan }
+        ensures marks { self.new.marks ≡ self.old.marks }
+        ensures time { self.new.time ≡ self.old.time + 1 }
+        ensures ticked { (fires : List Pos) × Ticks (world_circuit self.old.plan self.old.marks) fires (state_in self.old) (state_in self.new) }
+    {
+        self.time += 1;
+        fire_due(
+            &self.build,
+            &self.marks,
+            self.time,
+            &mut self.cells,
+            &mut self.next,
+            &mut self.powers,
+        );
+    }
+
+    /// The number of ticks since the start.
+    pub fn time(&self) -> u64
+        ensures { result ≡ self.now.time }
+    {
+        self.time
+    }
+
+    /// The number of outputs.
+    pub fn output_count(&self) -> usize
+        ensures { result ≡ length (world_circuit self.now.plan self.now.marks).shown }
+    {
+        self.places.len()
+    }
+
+    /// What the outputs show, in order of places.
+    pub fn view(&self, into: &mut [u8])
+        requires { length into.old ≡ length (world_circuit self.now.plan self.now.marks).shown }
+        ensures values { into.new ≡ view (world_circuit self.now.plan self.now.marks) (state_in self.now) }
+        ensures small { All (λ value. value ≤ 15) into.new }
+    {
+        let _ = self.build.cells();
+        view_into(
+            &self.build,
+            &self.marks,
+            &self.cells,
+            &self.powers,
+            &self.places,
+            into,
+        );
+    }
+}
