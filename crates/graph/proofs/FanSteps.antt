@@ -1,8 +1,8 @@
 -- Where all links from a node go into some nodes, renaming in these is renaming in all.
-use Rattle.std.proofs.Common.{◌≡◌, ◌≢◌, ◌≤◌, ◌^◌, ℕ, zero, suc, List, [], ◌∷◌, Option, Some, None, refl, sym, ap, ap₂, ◌∙◌, subst, map, set, length, get_or, ◌⊎◌, inl, inr, cond}
+use Rattle.std.proofs.Common.{◌≡◌, ◌≢◌, ◌≤◌, ◌^◌, ℕ, zero, suc, List, [], ◌∷◌, Option, Some, None, refl, sym, ap, ap₂, ◌∙◌, subst, map, length, ◌⊎◌, inl, inr}
 use Rattle.std.specs.Prelude.{option_map, slice_get, ◌==◌}
 use Rattle.std.proofs.lemmas.List.{length-map, length-set}
-use Rattle.std.proofs.lemmas.Bool.{cases_eq, cases_Bool, eqb-true, eq-eqb, ne_eqb}
+use Rattle.std.proofs.lemmas.Bool.{cases_eq, cases_Bool, ne_eqb}
 use Rattle.circuit.specs.Circuit.{Among}
 use Rattle.graph.specs.declared.Link.{Link}
 use Rattle.graph.specs.Graph.{Node, Nodes, node_at, HasLink}

@@ -1,5 +1,5 @@
 -- A node that reads Constants alone and rests is a Constant.
-use Rattle.std.proofs.Common.{◌≡◌, ◌≢◌, ℕ, zero, suc, ◌+◌, ◌*◌, ◌<◌, ◌≤◌, Bool, true, false, not, List, [], ◌∷◌, Option, Some, None, refl, sym, ap, ◌∙◌, subst, arith, cond, set, map, length, get_or, ◌⊎◌, inl, inr}
+use Rattle.std.proofs.Common.{◌≡◌, ◌≢◌, ℕ, suc, ◌+◌, ◌<◌, ◌≤◌, Bool, true, false, not, List, [], ◌∷◌, Option, Some, None, refl, sym, ap, ◌∙◌, subst, arith, cond, map, get_or, ◌⊎◌, inl, inr}
 use Rattle.std.specs.Prelude.{slice_get, option_map, IsSome, ◌&&◌, ◌==◌}
 use Rattle.std.proofs.lemmas.Bool.{cases_eq, cases_Bool, eq-eqb, false≢true}
 use Rattle.std.proofs.lemmas.List.{length-set, get_or-set_other, get_or-set_same}
@@ -8,7 +8,7 @@ use Rattle.circuit.specs.declared.Component.TheVariants.{Torch as TorchPart, Rep
 use Rattle.circuit.specs.declared.Readings.{Readings}
 use Rattle.circuit.specs.declared.Cell.{Cell}
 use Rattle.circuit.specs.declared.Pos.{Pos}
-use Rattle.circuit.specs.Component.{out, goal, locked, asks, attended_value, gets_tick}
+use Rattle.circuit.specs.Component.{out, goal, locked, asks, attended_value}
 use Rattle.circuit.specs.Circuit.{State, outs, out_at, Each}
 use Rattle.circuit.specs.Shows.{RefinesBy}
 use Rattle.circuit.specs.Rest.{AgreeBut}

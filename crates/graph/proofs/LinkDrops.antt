@@ -1,5 +1,5 @@
 -- Dropping a link that brings nothing: all that is shown stays, with the order.
-use Rattle.std.proofs.Common.{◌≡◌, ◌≢◌, ℕ, zero, suc, ◌+◌, ◌<◌, ◌≤◌, List, [], ◌∷◌, ◌++◌, Option, Some, None, refl, sym, ap, ◌∙◌, subst, subst₂, arith, set, length, map, get_or, ◌⊎◌, inl, inr}
+use Rattle.std.proofs.Common.{◌≡◌, ◌≢◌, ℕ, zero, suc, ◌+◌, ◌<◌, List, [], ◌∷◌, ◌++◌, Option, Some, None, refl, sym, ap, ◌∙◌, subst, subst₂, arith, set, length, map}
 use Rattle.std.specs.Prelude.{remove, slice_get, option_map, IsSome}
 use Rattle.std.proofs.Math.Path.{fun_ext}
 use Rattle.std.proofs.lemmas.List.{length-set}
@@ -14,7 +14,7 @@ use Rattle.graph.specs.declared.Link.{Link}
 use Rattle.circuit.specs.declared.Pos.{Pos}
 use Rattle.graph.specs.Graph.{Node, Nodes, node_at, Lives, HasLink}
 use Rattle.graph.specs.Edits.{without_link, drop_link}
-use Rattle.graph.specs.Readings.{reading, readings_of, back_of}
+use Rattle.graph.specs.Readings.{reading, back_of}
 use Rattle.graph.specs.GraphCircuit.{role_at, first_at, base_at, begin_at, place_at, readings_at, output_of, outputs_from, in_order, Output, graph_circuit}
 use Rattle.graph.specs.Sound.{IsSoundNode, IsSound, places_at, places_of}
 use Rattle.graph.specs.Measure.{measure_at, measure}

@@ -1,5 +1,5 @@
 -- What stands under each key after an edit of one entry, or of all.
-use Rattle.std.proofs.Common.{◌≡◌, ◌≢◌, ℕ, zero, suc, [], ◌∷◌, Option, Some, None, refl, sym, ap, map, set}
+use Rattle.std.proofs.Common.{◌≡◌, ◌≢◌, ℕ, zero, suc, [], ◌∷◌, Option, None, refl, sym, ap, map, set}
 use Rattle.std.specs.Prelude.{option_map}
 use Rattle.graph.specs.Graph.{Node, Nodes, node_at}
 use Rattle.graph.specs.Edits.{change}

@@ -1,8 +1,7 @@
 -- A sweep over the keys of a graph, in which each node is done when its turn comes.
-use Rattle.std.proofs.Common.{◌≡◌, ◌≢◌, ℕ, zero, suc, ◌+◌, ◌<◌, ◌≤◌, Bool, true, false, ◌||◌, List, [], ◌∷◌, Option, Some, None, Ok, Err, Result, refl, sym, ap, ◌∙◌, subst, arith, length, get_or, inl, inr}
+use Rattle.std.proofs.Common.{◌≡◌, ◌≢◌, ℕ, zero, suc, ◌+◌, ◌<◌, ◌≤◌, Bool, true, false, ◌||◌, List, [], ◌∷◌, Option, Some, None, Ok, refl, sym, ap, ◌∙◌, subst, arith, length, get_or, inl, inr}
 use Rattle.std.proofs.lemmas.Bool.{cases_eq, false≢true}
 use Rattle.std.specs.Prelude.{IsSome}
-use Rattle.rp_text.specs.declared.NoMemory.{NoMemory}
 use Rattle.graph.specs.Items.{keys_from, keys_of}
 use Rattle.graph.specs.Circuit.{Each, Among}
 use Rattle.graph.specs.Graph.{Node, Nodes, node_at, Lives}

@@ -1,5 +1,7 @@
 pub mod Held
-pub mod Powers
+pub mod Numbering
+pub mod Attending
+pub mod Steps
 pub mod Wiring
 pub mod Due
 pub mod Within

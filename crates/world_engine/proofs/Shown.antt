@@ -1,14 +1,16 @@
 -- What the outputs show is the view.
-use Rattle.std.proofs.Common.{◌≡◌, ℕ, List, map, sym}
+use Rattle.std.proofs.Common.{◌≡◌, ℕ, List, map, sym, ap, ◌∙◌}
 use Rattle.std.proofs.lemmas.Simd.{map-map}
-use Rattle.build.specs.declared.OutPlace.{OutPlace}
-use Rattle.build.specs.Plan.{Plan}
-use Rattle.circuit.specs.declared.Cell.{Cell}
-use Rattle.circuit.specs.Circuit.{seen, view}
 use Rattle.circuit.specs.declared.Pos.{Pos}
+use Rattle.circuit.specs.declared.Cell.{Cell}
+use Rattle.circuit.specs.Circuit.{State, seen, view}
+use Rattle.build.specs.declared.OutPlace.{OutPlace}
 use Rattle.build.specs.Outputs.{outputs}
-use Rattle.power_rules.specs.World.{world_circuit}
-use Rattle.world_engine.specs.Running.{state_of, shown_of}
+use Rattle.world_engine.specs.Things.{Numbered, state_by}
+use Rattle.world_engine.specs.Running.{circuit_of, seen_as, state_in, shown_of}
+use Rattle.world_engine.proofs.Held.{state-seen}
 
-pub view-shown : (b : Plan) (marks : List Pos) (time : ℕ) (cells : List Cell) → map (shown_of b marks cells) (outputs b marks) ≡ view (world_circuit b marks) (state_of b time cells)
-view-shown b marks time cells = sym (map-map (seen (world_circuit b marks) (state_of b 0 cells)) (λ (o : OutPlace). o.pos) (outputs b marks))
+pub view-shown : (m : Numbered) (time : ℕ) (cells : List Cell) → map (shown_of m cells) (outputs m.plan m.marks) ≡ view (circuit_of m) (state_in (seen_as m time cells))
+view-shown m time cells =
+    sym (map-map (seen (circuit_of m) (state_by m 0 cells)) (λ (o : OutPlace). o.pos) (outputs m.plan m.marks))
+    ∙ ap (λ (s : State Pos). view (circuit_of m) s) (sym (state-seen m time cells))

@@ -1,3 +1,6 @@
+pub mod Things
+pub mod Numbers
+pub mod WireThings
 pub mod Running
-pub mod Wires
+pub mod Given
 pub use Rattle.power_rules.specs.World

@@ -6,6 +6,7 @@ mod sight;
 mod stored;
 #[cfg(test)]
 mod tests;
+mod things;
 mod wires;
 mod world;
 

@@ -1,31 +1,25 @@
-//! What the places of a running build give.
+//! What the places of a running build give and read.
 
-ghost use Rattle.std.specs.Prelude.{◌≡◌, length};
-ghost use Rattle.build.specs.Plan.{block_at, entry, volume};
-ghost use Rattle.build.specs.Roles.{role_at};
-ghost use Rattle.power_rules.specs.RightWires.{levels};
-ghost use Rattle.world_engine.specs.Running.{nothing, given_by, AreWithin};
+ghost use Rattle.std.specs.Prelude.{◌≡◌, ◌<◌, ◌^◌, length};
+ghost use Rattle.circuit.specs.Circuit.{attended_at, fired_at, seen_at};
+ghost use Rattle.build.specs.Roles.{role_at, first_at};
+ghost use Rattle.power_rules.specs.RightWires.{level_with};
+ghost use Rattle.world_engine.specs.Things.{held, nothing};
+ghost use Rattle.world_engine.specs.Running.{given_by, reads_of, after_attending, AreWithin};
 
-use build::{Build, Marks};
-use circuit::{Cell, Component, Pos};
-use power_rules::{Levels, base, component};
+use crate::things::Things;
+use circuit::{Cell, Component, Pos, Readings};
+use power_rules::{Levels, base, faces_diode, readings};
 use wire_shape::wire_at;
 
-/// The component at a place.
-#[tactic(auto, unfolding(build::specs::Roles::role_at))]
-pub(crate) fn role(build: &Build, marks: &Marks, pos: Pos) -> Option<Component>
-    ensures { result ≡ role_at build.now marks.now pos }
-{
-    component(build.at(pos), marks.contains(pos))
-}
-
 /// What a place holds.
-pub(crate) fn cell_at(build: &Build, cells: &[Cell], pos: Pos) -> Cell
-    requires { length cells.now ≡ volume build.now }
-    ensures { result ≡ entry build.now cells.now nothing pos }
+#[tactic(auto, unfolding(crate::specs::Things::held))]
+pub(crate) fn cell_at(things: &Things, cells: &[Cell], pos: Pos) -> Cell
+    requires { length cells.now ≡ length things.now.spots }
+    ensures { result ≡ held things.now cells.now nothing pos }
 {
-    match build.cell(pos) {
-        Some(index) => cells[index],
+    match things.number(pos) {
+        Some(number) => cells[number],
         None => Cell {
             value: 0,
             due: 0,
@@ -34,13 +28,14 @@ pub(crate) fn cell_at(build: &Build, cells: &[Cell], pos: Pos) -> Cell
     }
 }
 
-/// The power at a place, 0 outside of the box.
-fn power_at(build: &Build, powers: &[u8], pos: Pos) -> u8
-    requires { length powers.now ≡ volume build.now }
-    ensures { result ≡ entry build.now powers.now 0 pos }
+// The power of the thing at a place, 0 where none stands.
+#[tactic(auto, unfolding(crate::specs::Things::held))]
+fn power_at(things: &Things, powers: &[u8], pos: Pos) -> u8
+    requires { length powers.now ≡ length things.now.spots }
+    ensures { result ≡ held things.now powers.now 0 pos }
 {
-    match build.cell(pos) {
-        Some(index) => powers[index],
+    match things.number(pos) {
+        Some(number) => powers[number],
         None => 0,
     }
 }
@@ -48,42 +43,108 @@ fn power_at(build: &Build, powers: &[u8], pos: Pos) -> u8
 /// What the components of a running build give, and the blocks that always give power. Wires give
 /// nothing here.
 #[derive(Drop)]
-pub(crate) struct Given<'b, 'm, 'c> {
-    pub(crate) build: &'b Build,
-    pub(crate) marks: &'m Marks,
+pub(crate) struct Given<'t, 'c> {
+    pub(crate) things: &'t Things,
     pub(crate) cells: &'c [Cell],
-    ghost whole: { length cells.now ≡ volume build.now },
-    ghost within: { AreWithin build.now marks.now cells.now },
+    ghost cells_whole: { length cells.now ≡ length things.now.spots },
+    ghost within: { AreWithin things.now cells.now },
 }
 
-impl<'b, 'm, 'c> Levels for Given<'b, 'm, 'c> {
-    ghost level_of = { λ s. given_by s.build.now s.marks.now s.cells.now };
+impl<'t, 'c> Levels for Given<'t, 'c> {
+    ghost level_of = { λ s. given_by s.things.now s.cells.now };
 
     #[tactic(auto, unfolding(build::specs::Roles::base_at))]
     fn level(&self, pos: Pos) -> u8 {
-        match role(self.build, self.marks, pos) {
-            Some(component) => circuit::out(component, cell_at(self.build, self.cells, pos).value),
-            None => base(self.build.at(pos)),
+        match self.things.role(pos) {
+            Some(component) => circuit::out(component, cell_at(self.things, self.cells, pos).value),
+            None => base(self.things.build().at(pos)),
         }
     }
 }
 
 /// The same with the powers of the wires.
 #[derive(Drop)]
-pub(crate) struct Seen<'b, 'm, 'c, 'p> {
-    pub(crate) given: Given<'b, 'm, 'c>,
+pub(crate) struct Seen<'t, 'c, 'p> {
+    pub(crate) given: Given<'t, 'c>,
     pub(crate) powers: &'p [u8],
-    ghost powers_whole: { length powers.now ≡ volume given.build.now },
+    ghost powers_whole: { length powers.now ≡ length given.things.now.spots },
 }
 
-impl<'b, 'm, 'c, 'p> Levels for Seen<'b, 'm, 'c, 'p> {
-    ghost level_of = { λ s. levels s.given.build.now (given_by s.given.build.now s.given.marks.now s.given.cells.now) s.powers.now };
+impl<'t, 'c, 'p> Levels for Seen<'t, 'c, 'p> {
+    ghost level_of = { λ s. level_with s.given.things.now.plan (given_by s.given.things.now s.given.cells.now) (held s.given.things.now s.powers.now 0) };
 
     fn level(&self, pos: Pos) -> u8 {
-        if wire_at(self.given.build, pos) {
-            power_at(self.given.build, self.powers, pos)
+        if wire_at(self.given.things.build(), pos) {
+            power_at(self.given.things, self.powers, pos)
         } else {
             self.given.level(pos)
         }
+    }
+}
+
+/// What a place reads.
+pub(crate) fn reads(things: &Things, cells: &[Cell], powers: &[u8], pos: Pos) -> Readings
+    requires cells_whole { length cells.now ≡ length things.now.spots }
+    requires powers_whole { length powers.now ≡ length things.now.spots }
+    requires within { AreWithin things.now cells.now }
+    ensures { result ≡ reads_of things.now cells.now powers.now pos }
+{
+    let given = Given { things, cells };
+    readings(things.build(), &Seen { given, powers }, pos)
+}
+
+/// What a place holds after it has attended.
+pub(crate) fn attended(things: &Things, time: u64, cells: &[Cell], powers: &[u8], pos: Pos) -> Cell
+    requires early { time < 2 ^ 63 }
+    requires cells_whole { length cells.now ≡ length things.now.spots }
+    requires powers_whole { length powers.now ≡ length things.now.spots }
+    requires within { AreWithin things.now cells.now }
+    ensures { result ≡ after_attending things.now time (reads_of things.now cells.now powers.now) pos (held things.now cells.now nothing pos) }
+{
+    let cell = cell_at(things, cells, pos);
+    match things.role(pos) {
+        Some(component) => circuit::attended(
+            time,
+            component,
+            faces_diode(things.build(), pos),
+            reads(things, cells, powers, pos),
+            cell,
+        ),
+        None => cell,
+    }
+}
+
+/// What a place holds after it has fired.
+pub(crate) fn fired(things: &Things, time: u64, cells: &[Cell], powers: &[u8], pos: Pos) -> Cell
+    requires early { time < 2 ^ 63 }
+    requires cells_whole { length cells.now ≡ length things.now.spots }
+    requires powers_whole { length powers.now ≡ length things.now.spots }
+    requires within { AreWithin things.now cells.now }
+    ensures { result ≡ fired_at time (role_at things.now.plan things.now.marks pos) (first_at things.now.plan pos) (reads_of things.now cells.now powers.now) pos (held things.now cells.now nothing pos) }
+{
+    let cell = cell_at(things, cells, pos);
+    match things.role(pos) {
+        Some(component) => circuit::fired(
+            time,
+            component,
+            faces_diode(things.build(), pos),
+            reads(things, cells, powers, pos),
+            cell,
+        ),
+        None => cell,
+    }
+}
+
+/// What a place shows: a wire its power, every other component its value.
+pub(crate) fn shown(things: &Things, cells: &[Cell], powers: &[u8], pos: Pos) -> u8
+    requires cells_whole { length cells.now ≡ length things.now.spots }
+    requires powers_whole { length powers.now ≡ length things.now.spots }
+    requires within { AreWithin things.now cells.now }
+    ensures { result ≡ seen_at (role_at things.now.plan things.now.marks pos) (reads_of things.now cells.now powers.now) pos (held things.now cells.now nothing pos) }
+{
+    match things.role(pos) {
+        Some(Component::Wire) => reads(things, cells, powers, pos).back,
+        Some(_) => cell_at(things, cells, pos).value,
+        None => 0,
     }
 }

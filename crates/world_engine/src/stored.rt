@@ -2,12 +2,11 @@
 
 ghost use Rattle.std.specs.Prelude.{◌≡◌, IfOk, length};
 ghost use Rattle.build.specs.Place.{same_place};
-ghost use Rattle.build.specs.Plan.{volume};
 ghost use Rattle.build.specs.Roles.{waiting_at, cell_with, stored};
-ghost use Rattle.world_engine.specs.Running.{state_of};
+ghost use Rattle.world_engine.specs.Things.{state_by};
 
-use crate::sight::role;
-use build::{Build, Marks, Pending};
+use crate::things::Things;
+use build::Pending;
 use circuit::{Cell, Pos};
 use power_rules::stored_value;
 use rp_text::NoMemory;
@@ -49,11 +48,14 @@ fn cell_with(value: u8, tick: Option<Pending>) -> Cell
 }
 
 #[tactic(auto, unfolding(build::specs::Roles::stored))]
-fn stored(build: &Build, marks: &Marks, pos: Pos) -> Cell
-    ensures { result ≡ stored build.now marks.now pos }
+fn stored(things: &Things, pos: Pos) -> Cell
+    ensures { result ≡ stored things.now.plan things.now.marks pos }
 {
-    match role(build, marks, pos) {
-        Some(_) => cell_with(stored_value(build, pos), waiting_at(build.pending(), pos)),
+    match things.role(pos) {
+        Some(_) => cell_with(
+            stored_value(things.build(), pos),
+            waiting_at(things.build().pending(), pos),
+        ),
         None => Cell {
             value: 0,
             due: 0,
@@ -62,18 +64,14 @@ fn stored(build: &Build, marks: &Marks, pos: Pos) -> Cell
     }
 }
 
-/// What the build stores, cell by cell.
-pub(crate) fn stored_cells(
-    alloc: Global,
-    build: &Build,
-    marks: &Marks,
-) -> Result<Vec<Cell>, NoMemory>
-    ensures whole { IfOk result (λ cells. length cells.items ≡ volume build.now) }
-    ensures stored { IfOk result (λ cells. state_of build.now 0 cells.items ≡ record { time = 0; cells = stored build.now marks.now }) }
+/// What each thing stores.
+pub(crate) fn stored_cells(alloc: Global, things: &Things) -> Result<Vec<Cell>, NoMemory>
+    ensures whole { IfOk result (λ cells. length cells.items ≡ length things.now.spots) }
+    ensures stored { IfOk result (λ cells. state_by things.now 0 cells.items ≡ record { time = 0; cells = stored things.now.plan things.now.marks }) }
 {
-    let mut cells = Vec::with_capacity(alloc, build.cells())?;
-    for index in 0..build.cells() {
-        cells.push(stored(build, marks, build.place(index)))?;
+    let mut cells = Vec::with_capacity(alloc, things.count())?;
+    for number in 0..things.count() {
+        cells.push(stored(things, things.spot(number)))?;
     }
     Ok(cells)
 }

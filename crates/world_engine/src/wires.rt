@@ -1,17 +1,22 @@
 //! The wires of a running build.
 
 ghost use Rattle.std.specs.Prelude.{◌≡◌, IsTrue, length};
-ghost use Rattle.build.specs.Plan.{cell_of, in_box, volume};
-ghost use Rattle.power_rules.specs.RightWires.{source_power, wire_cells};
+ghost use Rattle.build.specs.Plan.{in_box};
+ghost use Rattle.wire_shape.specs.Shape.{wire_at};
+ghost use Rattle.wire_shape.specs.Feeders.{feeders};
+ghost use Rattle.power_rules.specs.RightWires.{source_power};
+ghost use Rattle.wire_net.specs.Net.{IsClosed};
+ghost use Rattle.world_engine.specs.WireThings.{number_of, thing_cells};
 ghost use Rattle.world_engine.specs.Running.{given_by, AreWithin, ArePowers};
 
 use crate::sight::Given;
+use crate::things::Things;
 use block_table::Side;
-use build::{Build, Marks};
+use build::Build;
 use circuit::{Cell, Pos};
 use power_rules::{Levels, read_no_dust};
 use wire_net::{Net, solve_into};
-use wire_shape::{feeders_of, wire_at};
+use wire_shape::{Feeders, feeders_of, wire_at};
 
 // The greatest power that a block reads from its six neighbours if no wire gave any.
 #[tactic(auto, unfolding(power_rules::specs::RightWires::source_power))]
@@ -28,61 +33,81 @@ fn source_power<L: Levels>(build: &Build, levels: &L, pos: Pos) -> u8
     down.max(up.max(north.max(south.max(west.max(east)))))
 }
 
-// The number of the cell of a place.
-fn cell_number(build: &Build, pos: Pos) -> u32
-    requires { IsTrue (in_box build.now pos) }
-    ensures { result ≡ cell_of build.now pos }
+// The number of a thing.
+fn number_of(things: &Things, pos: Pos) -> u32
+    ensures { result ≡ number_of things.now pos }
 {
-    let _ = build.cells();
-    match build.cell(pos) {
-        Some(index) => index as u32,
+    let _ = things.count();
+    match things.number(pos) {
+        Some(number) => number as u32,
         None => 0,
     }
 }
 
-// The wires as a net: a cell for each cell of the box.
-#[derive(Drop)]
-struct Wires<'b, 'm, 'c> {
-    given: Given<'b, 'm, 'c>,
+fn wire_there(things: &Things, pos: Pos) -> bool
+    ensures { result ≡ wire_at things.now.plan pos }
+{
+    wire_at(things.build(), pos)
 }
 
-impl<'b, 'm, 'c> Net for Wires<'b, 'm, 'c> {
-    ghost use Rattle.world_engine.specs.Wires.{wires_bounded, wires_closed};
+fn source_of(given: &Given, pos: Pos) -> u8
+    requires { IsTrue (in_box given.now.things.now.plan pos) }
+    ensures { result ≡ source_power given.now.things.now.plan (given_by given.now.things.now given.now.cells.now) pos }
+{
+    source_power(given.things.build(), given, pos)
+}
 
-    ghost net = { λ s. wire_cells s.given.build.now (given_by s.given.build.now s.given.marks.now s.given.cells.now) };
+fn feeders_at(things: &Things, pos: Pos) -> Feeders
+    requires { IsTrue (wire_at things.now.plan pos) }
+    ensures { result ≡ feeders things.now.plan pos }
+{
+    feeders_of(things.build(), pos)
+}
 
-    ghost bounded = { λ s. wires_bounded s.given.build.now s.given.marks.now s.given.cells.now s.given.within };
+// The wires as a net: a cell for each thing, which is empty where it is no wire.
+#[derive(Drop)]
+struct Wires<'t, 'c> {
+    given: Given<'t, 'c>,
+    ghost net_closed: { IsClosed (thing_cells given.things.now (given_by given.things.now given.cells.now)) },
+}
 
-    ghost closed = { λ s. wires_closed s.given.build.now (given_by s.given.build.now s.given.marks.now s.given.cells.now) };
+impl<'t, 'c> Net for Wires<'t, 'c> {
+    ghost use Rattle.world_engine.specs.Given.{given_bounded};
+
+    ghost net = { λ s. thing_cells s.given.things.now (given_by s.given.things.now s.given.cells.now) };
+
+    ghost bounded = { λ s. given_bounded s.given.things.now s.given.cells.now s.given.within };
+
+    ghost closed = { λ s. s.net_closed };
 
     fn cells(&self) -> u32 {
-        self.given.build.cells() as u32
+        self.given.things.count() as u32
     }
 
     fn base(&self, cell: u32) -> u8 {
-        let pos = self.given.build.place(cell as usize);
-        if wire_at(self.given.build, pos) {
-            source_power(self.given.build, &self.given, pos)
+        let pos = self.given.things.spot(cell as usize);
+        if wire_there(self.given.things, pos) {
+            source_of(&self.given, pos)
         } else {
             0
         }
     }
 
     fn feeder_count(&self, cell: u32) -> u8 {
-        let pos = self.given.build.place(cell as usize);
-        if wire_at(self.given.build, pos) {
-            feeders_of(self.given.build, pos).len() as u8
+        let pos = self.given.things.spot(cell as usize);
+        if wire_there(self.given.things, pos) {
+            feeders_at(self.given.things, pos).len() as u8
         } else {
             0
         }
     }
 
     fn feeder(&self, cell: u32, index: u8) -> u32 {
-        let pos = self.given.build.place(cell as usize);
-        if wire_at(self.given.build, pos) {
-            cell_number(
-                self.given.build,
-                feeders_of(self.given.build, pos).get(usize::from(index)),
+        let pos = self.given.things.spot(cell as usize);
+        if wire_there(self.given.things, pos) {
+            number_of(
+                self.given.things,
+                feeders_at(self.given.things, pos).get(usize::from(index)),
             )
         } else {
             0
@@ -90,17 +115,14 @@ impl<'b, 'm, 'c> Net for Wires<'b, 'm, 'c> {
     }
 }
 
-/// Writes the powers of the wires, one for each cell of the box, whatever stood there.
-pub(crate) fn solve(build: &Build, marks: &Marks, cells: &[Cell], powers: &mut [u8])
-    requires cells_whole { length cells.now ≡ volume build.now }
-    requires within { AreWithin build.now marks.now cells.now }
-    requires powers_whole { length powers.old ≡ volume build.now }
-    ensures { ArePowers build.now marks.now cells.now powers.new }
+/// Writes the powers of the things, whatever stood there.
+pub(crate) fn solve(things: &Things, cells: &[Cell], powers: &mut [u8])
+    requires cells_whole { length cells.now ≡ length things.now.spots }
+    requires within { AreWithin things.now cells.now }
+    requires powers_whole { length powers.old ≡ length things.now.spots }
+    ensures { ArePowers things.now cells.now powers.new }
 {
-    let given = Given {
-        build,
-        marks,
-        cells,
-    };
+    let _ = things.count();
+    let given = Given { things, cells };
     solve_into(&Wires { given }, powers);
 }

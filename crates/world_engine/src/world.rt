@@ -6,10 +6,10 @@ ghost use Rattle.circuit.specs.Circuit.{view, start, Clicks, Ticks};
 ghost use Rattle.circuit.specs.Taken.{Takes};
 ghost use Rattle.power_rules.specs.World.{world_circuit};
 
-use crate::events::{attend_into, fire_due, take_click, view_into};
+use crate::events::{begin, fire_due, take_click, view_into};
 use crate::stored::stored_cells;
-use crate::wires::solve;
-use build::{Build, ClickRefusal, Marks, OutPlace, outputs};
+use crate::things::Things;
+use build::{Build, ClickRefusal, Marks, OutPlace};
 use circuit::{Cell, Click, Pos};
 use rp_text::NoMemory;
 use std::alloc::Global;
@@ -18,23 +18,21 @@ use std::marker::Model;
 /// A build that runs.
 #[derive(Drop)]
 pub struct World {
-    build: Build,
-    marks: Marks,
+    things: Things,
     places: Vec<OutPlace>,
     cells: Vec<Cell>,
-    next: Vec<Cell>,
     powers: Vec<u8>,
     time: u64,
 }
 
 impl Model for World {
-    ghost use Rattle.world_engine.specs.Running.{Running, IsRunning};
+    ghost use Rattle.world_engine.specs.Running.{Running, seen_as, IsRunning};
 
     ghost Value = { Running };
 
-    ghost view = { λ w. record { plan = w.build; marks = w.marks; time = w.time; cells = w.cells.items } };
+    ghost view = { λ w. seen_as w.things w.time w.cells.items };
 
-    ghost invariant = { λ w. IsRunning w.build w.marks w.places.items w.cells.items w.next.items w.powers.items w.time };
+    ghost invariant = { λ w. IsRunning w.things w.places.items w.cells.items w.powers.items w.time };
 }
 
 impl World {
@@ -47,20 +45,15 @@ impl World {
         ensures marks { IfOk result (λ world. world.marks ≡ marks.now) }
         ensures start { IfOk result (λ world. state_in world ≡ start (world_circuit build.now marks.now)) }
     {
-        let build = build.copy()?;
-        let marks = marks.copy()?;
-        let places = outputs(alloc, &build, &marks)?;
-        let mut powers = vec![in alloc; 0u8; build.cells()]?;
-        let next = stored_cells(alloc, &build, &marks)?;
-        let mut cells = stored_cells(alloc, &build, &marks)?;
-        solve(&build, &marks, &next, &mut powers);
-        attend_into(&build, &marks, 0, &powers, &next, &mut cells);
+        let things = Things::new(alloc, build, marks)?;
+        let places = things.outputs(alloc)?;
+        let mut cells = stored_cells(alloc, &things)?;
+        let mut powers = vec![in alloc; 0u8; things.count()]?;
+        begin(&things, &mut powers, &mut cells);
         Ok(World {
-            build,
-            marks,
+            things,
             places,
             cells,
-            next,
             powers,
             time: 0,
         })
@@ -76,11 +69,9 @@ impl World {
         ensures time { self.new.time ≡ self.old.time }
     {
         take_click(
-            &self.build,
-            &self.marks,
+            &self.things,
             self.time,
             &mut self.cells,
-            &mut self.next,
             &mut self.powers,
             pos,
             click,
@@ -96,14 +87,7 @@ impl World {
         ensures ticked { (fires : List Pos) × Ticks (world_circuit self.old.plan self.old.marks) fires (state_in self.old) (state_in self.new) }
     {
         self.time += 1;
-        fire_due(
-            &self.build,
-            &self.marks,
-            self.time,
-            &mut self.cells,
-            &mut self.next,
-            &mut self.powers,
-        );
+        fire_due(&self.things, self.time, &mut self.cells, &mut self.powers);
     }
 
     /// The number of ticks since the start.
@@ -126,14 +110,6 @@ impl World {
         ensures values { into.new ≡ view (world_circuit self.now.plan self.now.marks) (state_in self.now) }
         ensures small { All (λ value. value ≤ 15) into.new }
     {
-        let _ = self.build.cells();
-        view_into(
-            &self.build,
-            &self.marks,
-            &self.cells,
-            &self.powers,
-            &self.places,
-            into,
-        );
+        view_into(&self.things, &self.cells, &self.powers, &self.places, into);
     }
 }

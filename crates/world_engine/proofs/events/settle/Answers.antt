@@ -1,33 +1,29 @@
-use Rattle.std.proofs.Common.{ap, ◌∙◌}
+use Rattle.std.proofs.Common.{set, ap, ◌∙◌}
 use Rattle.circuit.specs.declared.Pos.{Pos}
 use Rattle.circuit.specs.Circuit.{State, attend}
-use Rattle.power_rules.specs.World.{world_circuit}
-use Rattle.world_engine.specs.Running.{state_of}
-use Rattle.world_engine.proofs.Within.{within_put, within_attended}
-use Rattle.world_engine.proofs.Powers.{powers-attended}
+use Rattle.world_engine.specs.Running.{circuit_of, spot}
+use Rattle.world_engine.proofs.Held.{one-put, spot_number}
+use Rattle.world_engine.proofs.Within.{within_put}
 use Rattle.world_engine.proofs.events.settle.Goals as goal
 
 pub solve-requires-clause-within : goal.solve-requires-clause-within
 solve-requires-clause-within c =
-    within_put c.args.build.now c.args.marks.now c.args.time c.args.cells.now c.put.new.cells c.args.pos c.args.cell c.requires.within c.requires.bounded (c.put.ensures c.args.marks.now c.args.time)
+    let m = c.args.things.now in
+    let w = c.count.ensures.numbered in
+    within_put m c.args.time c.args.cells.now (set c.args.cells.now c.args.number c.args.cell) (spot m c.args.number) c.args.cell c.requires.within c.requires.bounded
+    (one-put m w c.args.time c.args.cells.now (spot m c.args.number) c.args.number c.args.cell c.requires.cells_whole (spot_number m w c.args.number c.requires.inside))
 
-pub attend_into-requires-clause-within : goal.attend_into-requires-clause-within
-attend_into-requires-clause-within c =
-    within_put c.args.build.now c.args.marks.now c.args.time c.args.cells.now c.put.new.cells c.args.pos c.args.cell c.requires.within c.requires.bounded (c.put.ensures c.args.marks.now c.args.time)
+pub attend_all-requires-clause-within : goal.attend_all-requires-clause-within
+attend_all-requires-clause-within c =
+    let m = c.args.things.now in
+    let w = c.count.ensures.numbered in
+    within_put m c.args.time c.args.cells.now (set c.args.cells.now c.args.number c.args.cell) (spot m c.args.number) c.args.cell c.requires.within c.requires.bounded
+    (one-put m w c.args.time c.args.cells.now (spot m c.args.number) c.args.number c.args.cell c.requires.cells_whole (spot_number m w c.args.number c.requires.inside))
 
 pub returns-clause-settled : goal.returns-clause-settled
 returns-clause-settled c =
-    ap (state_of c.args.build.now c.args.time) c.copy_from_slice.ensures.after
-    ∙ c.attend_into.ensures
-    ∙ ap (λ (s : State Pos). attend (world_circuit c.args.build.now c.args.marks.now) s) (c.put.ensures c.args.marks.now c.args.time)
-
-pub returns-clause-within : goal.returns-clause-within
-returns-clause-within c =
-    within_attended c.args.build.now c.cells.ensures.whole c.args.marks.now c.args.time c.put.new.cells c.copy_from_slice.new.self
-    (within_put c.args.build.now c.args.marks.now c.args.time c.args.cells.now c.put.new.cells c.args.pos c.args.cell c.requires.within c.requires.bounded (c.put.ensures c.args.marks.now c.args.time))
-    (ap (state_of c.args.build.now c.args.time) c.copy_from_slice.ensures.after ∙ c.attend_into.ensures)
-
-pub returns-clause-powers : goal.returns-clause-powers
-returns-clause-powers c =
-    powers-attended c.args.build.now c.args.marks.now c.args.time c.put.new.cells c.copy_from_slice.new.self c.solve.new.powers
-    (ap (state_of c.args.build.now c.args.time) c.copy_from_slice.ensures.after ∙ c.attend_into.ensures) c.solve.ensures
+    let m = c.args.things.now in
+    let w = c.count.ensures.numbered in
+    c.attend_all.ensures.attended
+    ∙ ap (λ (s : State Pos). attend (circuit_of m) s)
+    (one-put m w c.args.time c.args.cells.now (spot m c.args.number) c.args.number c.args.cell c.requires.cells_whole (spot_number m w c.args.number c.requires.inside))

@@ -1,10 +1,10 @@
 use Rattle.std.proofs.Common.{◌∙◌, sym}
 use Rattle.world_engine.specs.Running.{given_by}
-use Rattle.world_engine.specs.Wires.{length-wires, powers_are}
+use Rattle.world_engine.specs.WireThings.{length-things, things_closed}
 use Rattle.world_engine.proofs.wires.solve.Goals as goal
 
 pub solve_into-requires : goal.solve_into-requires
-solve_into-requires c = c.requires.powers_whole ∙ sym (length-wires c.args.build.now (given_by c.args.build.now c.args.marks.now c.args.cells.now))
+solve_into-requires c = c.requires.powers_whole ∙ sym (length-things c.args.things.now (given_by c.args.things.now c.args.cells.now))
 
-pub returns : goal.returns
-returns c = powers_are c.args.build.now c.args.marks.now c.args.cells.now c.solve_into.new.powers c.requires.within c.solve_into.ensures
+pub invariant_of-solve_into : goal.invariant_of-solve_into
+invariant_of-solve_into c = record { net_closed = things_closed c.args.things.now c.count.ensures.numbered (given_by c.args.things.now c.args.cells.now) }

@@ -1,30 +1,29 @@
 use Rattle.std.proofs.Common.{◌<◌, ◌∙◌, ℕ, List, length, sym, ap, arith}
 use Rattle.std.proofs.lemmas.List.{length-map}
 use Rattle.circuit.specs.declared.Pos.{Pos}
-use Rattle.build.specs.Plan.{volume, cell_of}
 use Rattle.wire_shape.specs.Feeders.{feeders}
 use Rattle.world_engine.specs.Running.{given_by}
-use Rattle.world_engine.specs.Wires.{length-wires}
+use Rattle.world_engine.specs.WireThings.{length-things, number_of}
 use Rattle.world_engine.proofs.Wiring.{feeders-wire, feeders-none}
 use Rattle.world_engine.proofs.wires.WiresNet.feeder_count.Goals as goal
 
-pub place-pos-requires : goal.place-pos-requires
-place-pos-requires c =
-    let s = c.args.self.now.given in
-    omega (arith, c.requires, length-wires s.build.now (given_by s.build.now s.marks.now s.cells.now))
+pub spot-pos-requires : goal.spot-pos-requires
+spot-pos-requires c =
+    let m = c.args.self.now.given.things.now in
+    omega (arith, c.requires, length-things m (given_by m c.args.self.now.given.cells.now))
 
-pub returns-then-wire_at : goal.returns-then-wire_at
-returns-then-wire_at c =
-    let s = c.args.self.now.given in
-    let given = given_by s.build.now s.marks.now s.cells.now in
-    let below : c.args.cell < volume s.build.now = omega (arith, c.requires, length-wires s.build.now given) in
-    c.len.ensures.len ∙ ap (λ (ps : List Pos). length ps) c.feeders_of.ensures
-    ∙ sym (ap (λ (cs : List ℕ). length cs) (feeders-wire s.build.now given c.args.cell c.place-pos.result below c.place-pos.ensures (sym c.wire_at.ensures ∙ c.if-wire_at.true))
-    ∙ length-map (feeders s.build.now c.place-pos.result) (cell_of s.build.now))
+pub returns-then-wire_there : goal.returns-then-wire_there
+returns-then-wire_there c =
+    let m = c.args.self.now.given.things.now in
+    let given = given_by m c.args.self.now.given.cells.now in
+    let below : c.args.cell < length m.spots = omega (arith, c.requires, length-things m given) in
+    c.len.ensures.len ∙ ap (λ (ps : List Pos). length ps) c.feeders_at.ensures
+    ∙ sym (ap (λ (cs : List ℕ). length cs) (feeders-wire m given c.args.cell c.spot-pos.result below c.spot-pos.ensures (sym c.wire_there.ensures ∙ c.if-wire_there.true))
+    ∙ length-map (feeders m.plan c.spot-pos.result) (number_of m))
 
-pub returns-else-wire_at : goal.returns-else-wire_at
-returns-else-wire_at c =
-    let s = c.args.self.now.given in
-    let given = given_by s.build.now s.marks.now s.cells.now in
-    let below : c.args.cell < volume s.build.now = omega (arith, c.requires, length-wires s.build.now given) in
-    sym (ap (λ (cs : List ℕ). length cs) (feeders-none s.build.now given c.args.cell c.place-pos.result below c.place-pos.ensures (sym c.wire_at.ensures ∙ c.if-wire_at.false)))
+pub returns-else-wire_there : goal.returns-else-wire_there
+returns-else-wire_there c =
+    let m = c.args.self.now.given.things.now in
+    let given = given_by m c.args.self.now.given.cells.now in
+    let below : c.args.cell < length m.spots = omega (arith, c.requires, length-things m given) in
+    sym (ap (λ (cs : List ℕ). length cs) (feeders-none m given c.args.cell c.spot-pos.result below c.spot-pos.ensures (sym c.wire_there.ensures ∙ c.if-wire_there.false)))

@@ -10,17 +10,15 @@ invariant_of-self c =
     let w = c.self.inside in
     let cells : (with_items w.cells c.take_click.new.cells).items ≡ c.take_click.new.cells =
     with_items_is w.cells c.take_click.new.cells (c.take_click.auto.cells ∙ ap (λ (ps : List Cell). length ps) c.deref_mut.ensures.value ∙ sym w.cells.ok.0) in
-    let next : (with_items w.next c.take_click.new.next).items ≡ c.take_click.new.next =
-    with_items_is w.next c.take_click.new.next (c.take_click.auto.next ∙ ap (λ (ps : List Cell). length ps) c.deref_mut-2.ensures.value ∙ sym w.next.ok.0) in
     let powers : (with_items w.powers c.take_click.new.powers).items ≡ c.take_click.new.powers =
-    with_items_is w.powers c.take_click.new.powers (c.take_click.auto.powers ∙ ap (λ (ps : List ℕ). length ps) c.deref_mut-3.ensures.value ∙ sym w.powers.ok.0) in
+    with_items_is w.powers c.take_click.new.powers (c.take_click.auto.powers ∙ ap (λ (ps : List ℕ). length ps) c.deref_mut-2.ensures.value ∙ sym w.powers.ok.0) in
     record {
+      numbered = c.self.invariant.numbered;
       cells_whole = ap (λ (ps : List Cell). length ps) cells ∙ c.take_click.auto.cells ∙ ap (λ (ps : List Cell). length ps) c.deref_mut.ensures.value ∙ c.self.invariant.cells_whole;
-      next_whole = ap (λ (ps : List Cell). length ps) next ∙ c.take_click.auto.next ∙ ap (λ (ps : List Cell). length ps) c.deref_mut-2.ensures.value ∙ c.self.invariant.next_whole;
-      powers_whole = ap (λ (ps : List ℕ). length ps) powers ∙ c.take_click.auto.powers ∙ ap (λ (ps : List ℕ). length ps) c.deref_mut-3.ensures.value ∙ c.self.invariant.powers_whole;
+      powers_whole = ap (λ (ps : List ℕ). length ps) powers ∙ c.take_click.auto.powers ∙ ap (λ (ps : List ℕ). length ps) c.deref_mut-2.ensures.value ∙ c.self.invariant.powers_whole;
       shown = c.self.invariant.shown;
-      within = subst (AreWithin w.build w.marks) (sym cells) c.take_click.ensures.within;
-      solved = subst (λ (ps : List ℕ). ArePowers w.build w.marks (with_items w.cells c.take_click.new.cells).items ps) (sym powers)
-          (subst (λ (cs : List Cell). ArePowers w.build w.marks cs c.take_click.new.powers) (sym cells) c.take_click.ensures.powers);
+      within = subst (AreWithin w.things) (sym cells) c.take_click.ensures.within;
+      solved = subst (λ (ps : List ℕ). ArePowers w.things (with_items w.cells c.take_click.new.cells).items ps) (sym powers)
+          (subst (λ (cs : List Cell). ArePowers w.things cs c.take_click.new.powers) (sym cells) c.take_click.ensures.powers);
       early = c.self.invariant.early;
     }

@@ -1,0 +1,2 @@
+pub mod ClampSteps
+pub mod DedupSteps

@@ -1,0 +1,96 @@
+//! Two passes that drop links: those that weigh too much to bring anything, and those beside a
+//! lighter one.
+#![tactic(auto)]
+
+ghost use Rattle.std.specs.Prelude.{◌≡◌, ◌+◌, ◌<◌, ◌^◌, OnOk, OnSome};
+ghost use Rattle.graph.specs.LinkAt.{link_at};
+ghost use Rattle.graph.specs.Sound.{IsSound};
+ghost use Rattle.graph.specs.Steps.{Clamps, Dedups};
+ghost use Rattle.pass_frame.specs.Frame.{Ran, IsDone};
+
+use graph::{Graph, Link, NodeKey};
+use pass_frame::Pass;
+use rp_text::NoMemory;
+use weights::Weights;
+
+mod doubled;
+mod heavy;
+pub mod laws;
+#[cfg(test)]
+mod tests;
+mod weights;
+
+/// Drops each link that weighs 15 or more.
+///
+/// It looks at each link once.
+#[derive(Drop)]
+pub struct Clamp;
+
+impl Pass for Clamp {
+    ghost step = { Clamps };
+
+    fn run(&mut self, graph: &mut Graph) -> Result<bool, NoMemory>
+        requires { IsSound graph.old.nodes }
+        ensures ran { Ran Clamps graph.old.nodes result graph.new.nodes }
+        ensures done { OnOk result (IsDone Clamps graph.new.nodes) }
+    {
+        let mut took = false;
+        let keys = graph.keys()?;
+        for key in &keys {
+            took |= heavy::drop_heavy_links(graph, *key);
+        }
+        Ok(took)
+    }
+
+    ghost use Rattle.clamp_dedup.specs.ClampLaws.{clamp_keeps_sound, clamp_refines, clamp_falls};
+
+    ghost keeps_sound = { clamp_keeps_sound };
+
+    ghost refines = { clamp_refines };
+
+    ghost falls = { clamp_falls };
+}
+
+/// Of the links with the same ends and group it drops all but one that weighs least, and of
+/// equal ones all but the first.
+///
+/// It looks at each link twice, and takes four bytes for each key up to the greatest.
+#[derive(Drop)]
+pub struct Dedup;
+
+impl Pass for Dedup {
+    ghost step = { Dedups };
+
+    fn run(&mut self, graph: &mut Graph) -> Result<bool, NoMemory>
+        requires { IsSound graph.old.nodes }
+        ensures ran { Ran Dedups graph.old.nodes result graph.new.nodes }
+        ensures done { OnOk result (IsDone Dedups graph.new.nodes) }
+    {
+        let mut took = false;
+        let keys = graph.keys()?;
+        let mut weights = Weights::new(*keys.allocator(), &keys)?;
+        for key in &keys {
+            took |= doubled::drop_doubled_links(graph, *key, &mut weights);
+        }
+        Ok(took)
+    }
+
+    ghost use Rattle.clamp_dedup.specs.DedupLaws.{dedup_keeps_sound, dedup_refines, dedup_falls};
+
+    ghost keeps_sound = { dedup_keeps_sound };
+
+    ghost refines = { dedup_refines };
+
+    ghost falls = { dedup_falls };
+}
+
+// The link of this index into the node.
+fn link_at(graph: &Graph, key: NodeKey, index: usize) -> Option<Link>
+    ensures value { result ≡ link_at graph.now.nodes key index }
+
+    // No list is as long as a number can be.
+    ensures small { OnSome result (index + 1 < 2 ^ 64) }
+{
+    let node = graph.node(key)?;
+    node.links.items.as_slice().get(index).copied()
+}

@@ -1,0 +1,3 @@
+pub mod FanSteps
+pub mod PairSteps
+pub mod TriedSteps

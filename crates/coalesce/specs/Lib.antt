@@ -1,0 +1,9 @@
+pub mod MergedGraph
+pub mod Shuffles
+pub mod MergedSound
+pub mod TwinReadings
+pub mod CoalesceLaws
+pub mod FanOuts
+pub mod Tried
+pub mod Pairs
+pub mod Order

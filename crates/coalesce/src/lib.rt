@@ -1,0 +1,66 @@
+//! The pass of the compiler that makes one node of two that always do the same.
+#![tactic(auto)]
+
+ghost use Rattle.std.specs.Prelude.{OnOk};
+ghost use Rattle.graph.specs.Sound.{IsSound};
+ghost use Rattle.graph.specs.Steps.{Coalesces};
+ghost use Rattle.pass_frame.specs.Frame.{Ran, IsDone};
+
+use graph::Graph;
+use pass_frame::{Pass, Stable};
+use rp_text::NoMemory;
+
+mod fan_outs;
+pub mod laws;
+mod pairs;
+mod sweep;
+#[cfg(test)]
+mod tests;
+
+/// Of two nodes that always do the same, the lower takes the part of the other.
+///
+/// It goes over the nodes by rising number and, for each, over the higher ones by rising number,
+/// and repeats this until it takes nothing. So after `Ok` no step is enabled.
+#[derive(Drop)]
+pub struct Coalesce;
+
+impl Pass for Coalesce {
+    ghost step = { Coalesces };
+
+    fn run(&mut self, graph: &mut Graph) -> Result<bool, NoMemory>
+        requires { IsSound graph.old.nodes }
+        ensures ran { Ran Coalesces graph.old.nodes result graph.new.nodes }
+        ensures done { OnOk result (IsDone Coalesces graph.new.nodes) }
+    {
+        let mut sweeps = Stable { pass: SweepOnce };
+        sweeps.run(graph)
+    }
+
+    ghost use Rattle.coalesce.specs.CoalesceLaws.{coalesce_sound, coalesce_refines, coalesce_falls};
+
+    ghost keeps_sound = { coalesce_sound };
+
+    ghost refines = { coalesce_refines };
+
+    ghost falls = { coalesce_falls };
+}
+
+// Goes over the nodes once.
+#[derive(Drop)]
+struct SweepOnce;
+
+impl Pass for SweepOnce {
+    ghost step = { Coalesces };
+
+    fn run(&mut self, graph: &mut Graph) -> Result<bool, NoMemory> {
+        sweep::sweep(graph)
+    }
+
+    ghost use Rattle.coalesce.specs.CoalesceLaws.{coalesce_sound, coalesce_refines, coalesce_falls};
+
+    ghost keeps_sound = { coalesce_sound };
+
+    ghost refines = { coalesce_refines };
+
+    ghost falls = { coalesce_falls };
+}

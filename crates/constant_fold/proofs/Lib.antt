@@ -1,0 +1,2 @@
+pub mod WaitLists
+pub mod TendSteps

@@ -1,0 +1,3 @@
+pub mod FoldLaws
+pub mod Foldable
+pub mod Tended

@@ -1,0 +1,148 @@
+//! Whether a node rests, by what Constants give.
+
+ghost use Rattle.std.specs.Prelude.{◌≡◌, ◌≤◌, Some};
+ghost use Rattle.circuit.specs.Component.{top};
+ghost use Rattle.graph.specs.Graph.{node_at};
+ghost use Rattle.graph.specs.Readings.{share, reading, back_of, readings_of};
+ghost use Rattle.graph.specs.Sound.{IsSound};
+ghost use Rattle.graph.specs.Steps.{fixed, fixed_out};
+ghost use Rattle.graph.specs.Stored.{plain};
+ghost use Rattle.constant_fold.specs.Foldable.{is_constant_kind, is_constant, folding_part, part_of, part_at, rest_value, rest_value_at};
+
+use circuit::{Component, Readings, goal, locked, out};
+use graph::{Graph, Group, Kind, Link, Node, NodeKey};
+
+// The component of the node, if it may be folded and has no pending tick.
+pub fn part_at(graph: &Graph, key: NodeKey) -> Option<Component>
+    ensures { result ≡ part_at (node_at graph.now.nodes key) }
+{
+    let node = graph.node(key)?;
+    part_of(node)
+}
+
+fn part_of(node: &Node) -> Option<Component>
+    ensures { result ≡ part_of (plain node.now) }
+{
+    if node.due == 0 {
+        folding_part(node.kind)
+    } else {
+        None
+    }
+}
+
+fn folding_part(kind: Kind) -> Option<Component>
+    ensures { result ≡ folding_part kind }
+{
+    match kind {
+        Kind::Torch => Some(Component::Torch),
+        Kind::Repeater { delay } => Some(Component::Repeater { delay }),
+        Kind::Comparator { subtract, .. } => Some(Component::Comparator { subtract }),
+        _ => None,
+    }
+}
+
+pub fn is_constant_at(graph: &Graph, key: NodeKey) -> bool
+    ensures { result ≡ is_constant (node_at graph.now.nodes key) }
+{
+    match graph.node(key) {
+        Some(node) => is_constant(node.kind),
+        None => false,
+    }
+}
+
+fn is_constant(kind: Kind) -> bool
+    ensures { result ≡ is_constant_kind kind }
+{
+    match kind {
+        Kind::Constant => true,
+        _ => false,
+    }
+}
+
+// What the node gives, if it is at its goal or locked.
+pub fn rest_value_at(graph: &Graph, key: NodeKey, component: Component) -> Option<u8>
+    requires sound { IsSound graph.now.nodes }
+    requires part { part_at (node_at graph.now.nodes key) ≡ Some component }
+    ensures { result ≡ rest_value_at graph.now.nodes (node_at graph.now.nodes key) component }
+{
+    let node = graph.node(key)?;
+    rest_value(graph, node, component)
+}
+
+fn rest_value(graph: &Graph, node: &Node, component: Component) -> Option<u8>
+    requires { node.now.state ≤ top component }
+    ensures { result ≡ rest_value graph.now.nodes (plain node.now) component }
+{
+    let readings = fixed_readings(graph, node);
+    if node.state == goal(component, readings) || locked(component, readings) {
+        Some(out(component, node.state))
+    } else {
+        None
+    }
+}
+
+// What the node reads, where Constants alone give anything.
+fn fixed_readings(graph: &Graph, node: &Node) -> Readings
+    ensures { result ≡ readings_of (fixed graph.now.nodes) (plain node.now) }
+{
+    let power = fixed_reading(graph, Group::Back, &node.links.items);
+    let side = fixed_reading(graph, Group::Side, &node.links.items);
+    Readings {
+        back: back_of(node.kind, power),
+        side,
+    }
+}
+
+// The back reading of a node whose Back links bring so much.
+fn back_of(kind: Kind, power: u8) -> u8
+    ensures { result ≡ back_of kind power }
+{
+    match kind {
+        Kind::Comparator {
+            direct: Some(direct),
+            ..
+        } => direct,
+        Kind::Comparator { far: Some(far), .. } if power < 15 => far,
+        _ => power,
+    }
+}
+
+fn fixed_reading(graph: &Graph, group: Group, links: &[Link]) -> u8
+    ensures { result ≡ reading (fixed graph.now.nodes) group links.now }
+{
+    let mut most = 0;
+    for link in links {
+        most = most.max(share(graph, group, link));
+    }
+    most
+}
+
+fn share(graph: &Graph, group: Group, link: &Link) -> u8
+    ensures { result ≡ share (fixed graph.now.nodes) group link.now }
+{
+    match (group, link.group) {
+        (Group::Back, Group::Back) | (Group::Side, Group::Side) => {
+            fixed_at(graph, link.from).saturating_sub(link.weight)
+        }
+        _ => 0,
+    }
+}
+
+// What a Constant gives, 0 for every other node.
+fn fixed_at(graph: &Graph, key: NodeKey) -> u8
+    ensures { result ≡ fixed graph.now.nodes key }
+{
+    match graph.node(key) {
+        Some(node) => fixed_out(node.kind, node.state),
+        None => 0,
+    }
+}
+
+fn fixed_out(kind: Kind, state: u8) -> u8
+    ensures { result ≡ fixed_out kind state }
+{
+    match kind {
+        Kind::Constant => state,
+        _ => 0,
+    }
+}

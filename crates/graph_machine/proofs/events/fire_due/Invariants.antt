@@ -1,0 +1,18 @@
+use Rattle.std.proofs.Common.{◌≡◌, ◌≤◌}
+use Rattle.graph_machine.specs.Playing.{held_state, IsPlaying, AllStill, due_count}
+use Rattle.graph_machine.proofs.TickSteps.{FiredSoFar}
+use Rattle.graph_machine.proofs.events.fire_due.Given as goal
+
+abbrev pub invariant-loop-key : goal.invariant-loop-key
+invariant-loop-key g l = record {
+  nodes : l.net.nodes ≡ l.initial.net.nodes;
+  time : l.cells.time ≡ l.initial.cells.time;
+  playing : IsPlaying l.net l.cells;
+  still : AllStill l.net l.cells;
+  fired : FiredSoFar l.initial.net.nodes (held_state l.initial.cells) (held_state l.cells) l.initial.fired.keys l.fired.keys l.initial.steps l.steps;
+  spare : due_count l.initial.net.nodes (held_state l.cells) ≤ l.fired.spare;
+  room : l.fired.room ≡ l.initial.fired.room;
+}
+
+abbrev pub decreases-loop-key : goal.decreases-loop-key
+decreases-loop-key g l = due_count l.initial.net.nodes (held_state l.cells)

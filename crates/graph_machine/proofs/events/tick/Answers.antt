@@ -1,0 +1,13 @@
+use Rattle.std.proofs.Common.{ℕ, ap, ◌∙◌, arith}
+use Rattle.circuit.specs.Circuit.{State}
+use Rattle.graph_machine.specs.Held.{Holding}
+use Rattle.graph_machine.specs.Playing.{held_state}
+use Rattle.graph_machine.proofs.TickSteps.{due_le, fire_all_time}
+use Rattle.graph_machine.proofs.events.tick.Goals as goal
+
+pub fire_due-requires-clause-room : goal.fire_due-requires-clause-room
+fire_due-requires-clause-room g c = omega (arith, due_le c.args.net.now.nodes (held_state c.advance.new.self), c.requires.room)
+
+pub returns-clause-time : goal.returns-clause-time
+returns-clause-time g c =
+    ap (λ (s : State ℕ). s.time) c.fire_due.ensures.fires.state ∙ fire_all_time c.args.net.now.nodes c.fire_due.ensures.fires.fires (held_state c.advance.new.self) ∙ ap (λ (h : Holding). h.time) c.advance.ensures

@@ -1,0 +1,24 @@
+//! Plays a compiled graph.
+#![tactic(auto)]
+
+ghost use Rattle.std.specs.Prelude.{◌≡◌};
+
+mod cells;
+mod counts;
+mod events;
+mod fired;
+mod links;
+mod machine;
+mod net;
+mod outputs;
+mod steps;
+mod wiring;
+
+pub use build::ClickRefusal;
+pub use cells::Wait;
+pub use fired::Fired;
+pub use machine::Machine;
+pub use steps::Steps;
+
+#[cfg(test)]
+mod tests;

@@ -1,0 +1,261 @@
+// What the nodes give and read.
+
+ghost use Rattle.std.specs.Prelude.{◌≡◌, ◌+◌, ◌-◌, ◌*◌, ◌<◌, ◌≤◌, ◌^◌, ◌⊎◌, ℕ, length, slice_index, slice_index_or, slice_set, All, None, IfOk};
+ghost use Rattle.circuit.specs.Circuit.{outs};
+ghost use Rattle.graph.specs.Graph.{node_at};
+ghost use Rattle.graph.specs.Sound.{IsSound};
+ghost use Rattle.graph.specs.declared.Group.{Group};
+ghost use Rattle.graph.specs.GraphCircuit.{graph_circuit, begin_at, readings_at, role_of, role_at, first_at};
+ghost use Rattle.graph.specs.Readings.{back_of};
+ghost use Rattle.graph_machine.specs.Outgoing.{links_from, outgoing};
+ghost use Rattle.graph_machine.specs.Counted.{one_if, count_at, no_counts, tally, is_strength, hits, row};
+ghost use Rattle.graph_machine.specs.Wired.{Wired, given, part_at, targets_in, ReadBy, part_role, part_first};
+
+use crate::counts::Counts;
+use crate::links::{OutLink, OutLinks};
+use crate::steps::Steps;
+use crate::wiring::{count_keys, no_counts, outs_of, parts_of, wire};
+use circuit::{Component, Readings};
+use graph::{Graph, Group, Kind, Pos};
+use rp_text::NoMemory;
+use std::alloc::Global;
+use std::marker::Model;
+use std::snapshot::Snapshot;
+use std::sync::ledger::Ledger;
+
+/// What a node is, without its links.
+#[derive(Clone, Copy, PartialEq, Eq, Debug)]
+pub struct Part {
+    pub pos: Pos,
+    pub kind: Kind,
+    pub state: u8,
+    pub first: bool,
+}
+
+/// The nodes of a graph, what each of them gives, and for each how many of its links bring each
+/// strength.
+#[derive(Drop)]
+pub struct Net {
+    // The graph, for clauses alone.
+    graph: Snapshot<Graph>,
+    parts: Vec<Option<Part>>,
+    outs: Vec<u8>,
+    counts: Vec<Counts>,
+    links: OutLinks,
+}
+
+impl Model for Net {
+    ghost use Rattle.std.specs.Prelude.{map};
+    ghost use Rattle.graph_machine.specs.Wired.{Wired, targets_of, IsWired};
+
+    ghost Value = { Wired };
+
+    ghost view = { λ net. record { nodes = net.graph.value.nodes; outs = net.outs.items; targets = map targets_of net.links } };
+
+    ghost invariant = { λ net. IsWired net.graph.value.nodes net.parts.items net.outs.items net.counts.items net.links };
+}
+
+/// The component that a node is.
+pub fn role_of(kind: Kind) -> Option<Component>
+    ensures { result ≡ role_of kind }
+{
+    match kind {
+        Kind::Lever => Some(Component::Lever),
+        Kind::Button { delay } => Some(Component::Button { delay }),
+        Kind::Plate => Some(Component::Plate),
+        Kind::Weighted => Some(Component::Weighted),
+        Kind::Torch => Some(Component::Torch),
+        Kind::Repeater { delay } => Some(Component::Repeater { delay }),
+        Kind::Comparator { subtract, .. } => Some(Component::Comparator { subtract }),
+        Kind::Lamp => Some(Component::Lamp),
+        Kind::Trapdoor => Some(Component::Trapdoor),
+        Kind::Note => Some(Component::Note),
+        Kind::Wire => Some(Component::Wire),
+        Kind::Constant => None,
+    }
+}
+
+fn role_of_part(part: Option<Part>) -> Option<Component>
+    ensures { result ≡ part_role part }
+{
+    role_of(part?.kind)
+}
+
+fn is_first_part(part: Option<Part>) -> bool
+    ensures { result ≡ part_first part }
+{
+    match part {
+        Some(part) => part.first,
+        None => false,
+    }
+}
+
+/// The back reading of a node whose Back links bring so much.
+fn back_of(kind: Kind, power: u8) -> u8
+    ensures { result ≡ back_of kind power }
+{
+    match kind {
+        Kind::Comparator {
+            direct: Some(direct),
+            ..
+        } => direct,
+        Kind::Comparator { far: Some(far), .. } if power < 15 => far,
+        _ => power,
+    }
+}
+
+/// A link brings another strength.
+fn move_one(counts: &mut Counts, group: Group, weight: u8, old: u8, new: u8)
+    requires old { old < 16 }
+    requires new { new < 16 }
+    requires some { 0 < count_at counts.old group (old - weight) }
+    requires few { count_at counts.old group (new - weight) < 2 ^ 63 }
+    ensures { (other : Group) (at : ℕ) → count_at counts.new other at + one_if (is_strength old other at group weight) ≡ count_at counts.old other at + one_if (is_strength new other at group weight) }
+{
+    counts.remove(group, old.saturating_sub(weight));
+    counts.add(group, new.saturating_sub(weight));
+}
+
+/// The links out of a node bring another strength each.
+fn spread<L: Ledger>(
+    counts: &mut [Counts],
+    links: &OutLinks,
+    from: usize,
+    old: u8,
+    new: u8,
+    steps: &mut Steps<L>,
+) -> usize
+    requires from { from < length links.now }
+    requires inside { All (λ link. link.to < length counts.old) (row links.now from) }
+    requires old { old < 16 }
+    requires new { new < 16 }
+    requires enough { (key : ℕ) (group : Group) (strength : ℕ) → strength < 16 → hits (is_strength old group strength) key (row links.now from) ≤ tally counts.old key group strength }
+    requires few { (key : ℕ) (group : Group) (strength : ℕ) → strength < 16 → tally counts.old key group strength < 2 ^ 62 }
+    ensures moved { (key : ℕ) (group : Group) (strength : ℕ) →
+        tally counts.new key group strength + hits (is_strength old group strength) key (row links.now from) ≡ tally counts.old key group strength + hits (is_strength new group strength) key (row links.now from) }
+    ensures count { result ≡ length (row links.now from) }
+    ensures read { steps.new ≡ steps.old + 1 + length (row links.now from) }
+{
+    let count = links.count(from, steps);
+    for index in 0..count {
+        let link = links.link(from, index, steps);
+        move_one(
+            &mut counts[link.to as usize],
+            link.group,
+            link.weight,
+            old,
+            new,
+        );
+    }
+    count
+}
+
+/// What a node reads, by how many of its links bring each strength.
+fn readings_by(part: Option<Part>, counts: &Counts) -> Readings
+    ensures { ReadBy part counts.now result }
+{
+    match part {
+        Some(part) => Readings {
+            back: back_of(part.kind, counts.greatest(Group::Back)),
+            side: counts.greatest(Group::Side),
+        },
+        None => Readings { back: 0, side: 0 },
+    }
+}
+
+impl Net {
+    ghost use Rattle.graph_machine.specs.Wired.{AreTargets};
+
+    /// The nodes of a graph as they begin.
+    pub fn start(alloc: Global, graph: &Graph) -> Result<Net, NoMemory>
+        requires { IsSound graph.now.nodes }
+        ensures nodes { IfOk result (λ net. net.nodes ≡ graph.now.nodes) }
+        ensures outs { IfOk result (λ net. (key : ℕ) → given net.outs key ≡ outs (graph_circuit graph.now.nodes) (record { time = 0; cells = λ other. begin_at (node_at graph.now.nodes other) }) key) }
+    {
+        let count = count_keys(graph)?;
+        let parts = parts_of(alloc, graph, count)?;
+        let outs = outs_of(alloc, &parts)?;
+        let mut counts = no_counts(alloc, count)?;
+        let mut links = OutLinks::new(alloc, count)?;
+        wire(graph, &outs, counts.as_mut_slice(), &mut links)?;
+        Ok(Net {
+            graph: Snapshot::of(graph),
+            parts,
+            outs,
+            counts,
+            links,
+        })
+    }
+
+    /// How many keys there are, with those that hold nothing.
+    pub fn len(&self) -> usize
+        ensures len { result ≡ length self.now.outs }
+        ensures past { (key : ℕ) → length self.now.outs ≤ key → node_at self.now.nodes key ≡ None }
+        ensures few { result ≤ 2 ^ 32 }
+    {
+        self.outs.len()
+    }
+
+    /// The node under the key.
+    pub fn part(&self, key: usize) -> Option<Part>
+        ensures { result ≡ part_at (node_at self.now.nodes key) }
+    {
+        *self.parts.get(key)?
+    }
+
+    /// The component under the key.
+    pub fn role(&self, key: usize) -> Option<Component>
+        ensures { result ≡ role_at (node_at self.now.nodes key) }
+    {
+        role_of_part(self.part(key))
+    }
+
+    /// Whether the node under the key is a diode that faces a diode.
+    pub fn is_first(&self, key: usize) -> bool
+        ensures { result ≡ first_at (node_at self.now.nodes key) }
+    {
+        is_first_part(self.part(key))
+    }
+
+    /// What the node under the key reads.
+    pub fn readings(&self, key: usize) -> Readings
+        requires { key < length self.now.outs }
+        ensures { result ≡ readings_at (given self.now.outs) (node_at self.now.nodes key) }
+    {
+        readings_by(self.parts[key], &self.counts[key])
+    }
+
+    /// Changes what a key gives, and tells how many links go out of it.
+    pub fn change<L: Ledger>(&mut self, key: usize, out: u8, steps: &mut Steps<L>) -> usize
+        requires key { key < length self.old.outs }
+        requires out { out < 16 }
+        ensures nodes { self.new.nodes ≡ self.old.nodes }
+        ensures outs { self.new.outs ≡ slice_set self.old.outs key out }
+        ensures targets { self.new.targets ≡ self.old.targets }
+        ensures count { result ≡ length (targets_in self.old.targets key) }
+        ensures outgoing { result ≡ outgoing self.old.nodes key }
+        ensures all { AreTargets self.old.nodes (targets_in self.old.targets key) key }
+        ensures read { steps.new ≡ steps.old + 1 + result }
+    {
+        let count = spread(
+            &mut self.counts,
+            &self.links,
+            key,
+            self.outs[key],
+            out,
+            steps,
+        );
+        self.outs[key] = out;
+        count
+    }
+
+    /// The key of a node that reads what the key gives.
+    pub fn target<L: Ledger>(&self, key: usize, index: usize, steps: &mut Steps<L>) -> usize
+        requires { index < length (targets_in self.now.targets key) }
+        ensures value { result ≡ slice_index (targets_in self.now.targets key) index }
+        ensures inside { result < length self.now.outs }
+        ensures read { steps.new ≡ steps.old + 1 }
+    {
+        self.links.link(key, index, steps).to as usize
+    }
+}

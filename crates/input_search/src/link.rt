@@ -1,0 +1,188 @@
+//! The links into the nodes of a graph.
+
+ghost use Rattle.std.specs.Prelude.{◌≡◌, ◌++◌, OnOk, IfOk, IsTrue, length, map, slice_index, slice_set};
+ghost use Rattle.build.specs.Plan.{in_box, entry};
+ghost use Rattle.graph.specs.Graph.{node_at};
+ghost use Rattle.input_search.specs.Numbers.{node_place, with_number, with_node, IsSpread, AreRanks, AreLinks, AreLists, numbered, numbered_links};
+
+use crate::readers::{push_back_links, push_side_links};
+use crate::search::{Origin, Search};
+use crate::taps::Tap;
+use build::Build;
+use circuit::Pos;
+use graph::{Graph, Group, Link, NodeKey};
+use node_arena::Key;
+use rp_text::NoMemory;
+use std::alloc::Global;
+
+// The place of the node of a key.
+fn place_of_node(graph: &Graph, key: NodeKey) -> Option<Pos>
+    ensures { result ≡ node_place (node_at graph.now.nodes key) }
+{
+    match graph.node(key) {
+        Some(node) => Some(node.pos),
+        None => None,
+    }
+}
+
+fn write(numbers: &mut Vec<u32>, index: usize, number: u32)
+    ensures { numbers.new.items ≡ slice_set numbers.old.items index number }
+{
+    if index < numbers.len() {
+        numbers[index] = number;
+    }
+}
+
+fn put_number(numbers: &mut Vec<u32>, build: &Build, pos: Pos, number: u32)
+    ensures { numbers.new.items ≡ with_number build.now numbers.old.items pos number }
+{
+    if let Some(cell) = build.cell(pos) {
+        write(numbers, cell, number);
+    }
+}
+
+// Writes the number of a node under the cell of its place.
+fn number_node(numbers: &mut Vec<u32>, build: &Build, graph: &Graph, number: u32)
+    ensures { numbers.new.items ≡ with_node build.now numbers.old.items (node_place (node_at graph.now.nodes number)) number }
+{
+    if let Some(pos) = place_of_node(graph, Key::new(number)) {
+        put_number(numbers, build, pos, number);
+    }
+}
+
+// The numbers of the first nodes, by the cells of their places.
+fn numbers_of(alloc: Global, build: &Build, graph: &Graph, count: u32) -> Result<Vec<u32>, NoMemory>
+    requires { IsSpread build.now graph.now.nodes }
+    ensures { IfOk result (λ numbers. AreRanks build.now graph.now.nodes count numbers.items) }
+{
+    let mut numbers = vec![in alloc; 0; build.cells()]?;
+    for number in 0..count {
+        number_node(&mut numbers, build, graph, number);
+    }
+    Ok(numbers)
+}
+
+fn number_in(numbers: &[u32], cell: usize) -> u32
+    ensures { result ≡ slice_index numbers.now cell }
+{
+    numbers.get(cell).copied().unwrap_or(0)
+}
+
+// The number of the node of a place, as it was written.
+fn number_at(numbers: &[u32], build: &Build, pos: Pos) -> u32
+    ensures { result ≡ entry build.now numbers.now 0 pos }
+{
+    match build.cell(pos) {
+        Some(cell) => number_in(numbers, cell),
+        None => 0,
+    }
+}
+
+fn numbered(numbers: &[u32], build: &Build, group: Group, origin: Origin) -> Link
+    ensures { result ≡ numbered build.now numbers.now group origin }
+{
+    Link {
+        from: Key::new(number_at(numbers, build, origin.place)),
+        group,
+        weight: origin.weight,
+    }
+}
+
+// Appends these links, with the numbers of the nodes that they come from.
+fn push_numbered(
+    links: &mut Vec<Link>,
+    numbers: &[u32],
+    build: &Build,
+    group: Group,
+    origins: &[Origin],
+) -> Result<(), NoMemory>
+    ensures { OnOk result (links.new.items ≡ links.old.items ++ map (numbered build.now numbers.now group) origins.now) }
+{
+    for origin in origins {
+        links.push(numbered(numbers, build, group, *origin))?;
+    }
+    Ok(())
+}
+
+// The lists that are filled anew for each node.
+#[derive(Drop)]
+struct Scratch {
+    origins: Vec<Origin>,
+    taps: Vec<Tap>,
+    search: Search,
+}
+
+impl Scratch {
+    fn new(alloc: Global) -> Scratch {
+        Scratch {
+            origins: Vec::new(alloc),
+            taps: Vec::new(alloc),
+            search: Search::new(alloc),
+        }
+    }
+}
+
+// The links into the node of a place, Back before Side.
+fn links_at(
+    alloc: Global,
+    scratch: &mut Scratch,
+    numbers: &[u32],
+    build: &Build,
+    reader: Pos,
+) -> Result<Vec<Link>, NoMemory>
+    requires { IsTrue (in_box build.now reader) }
+    ensures { IfOk result (λ links. links.items ≡ numbered_links build.now numbers.now reader) }
+{
+    let Scratch {
+        origins,
+        taps,
+        search,
+    } = scratch;
+    let mut links = Vec::new(alloc);
+    origins.clear();
+    push_back_links(origins, taps, search, build, reader)?;
+    push_numbered(&mut links, numbers, build, Group::Back, origins)?;
+    origins.clear();
+    push_side_links(origins, taps, search, build, reader)?;
+    push_numbered(&mut links, numbers, build, Group::Side, origins)?;
+    Ok(links)
+}
+
+// The links into the node of this number.
+fn links_of_node(
+    alloc: Global,
+    scratch: &mut Scratch,
+    numbers: &[u32],
+    build: &Build,
+    graph: &Graph,
+    number: u32,
+) -> Result<Vec<Link>, NoMemory>
+    requires { IsSpread build.now graph.now.nodes }
+    ensures { IfOk result (λ links. AreLinks build.now numbers.now (node_place (node_at graph.now.nodes number)) links.items) }
+{
+    match place_of_node(graph, Key::new(number)) {
+        Some(pos) => links_at(alloc, scratch, numbers, build, pos),
+        None => Ok(Vec::new(alloc)),
+    }
+}
+
+// The links into each of the first nodes.
+fn lists_of(
+    alloc: Global,
+    build: &Build,
+    graph: &Graph,
+    count: u32,
+    numbers: &[u32],
+) -> Result<Vec<Vec<Link>>, NoMemory>
+    requires { IsSpread build.now graph.now.nodes }
+    ensures length { IfOk result (λ lists. length lists.items ≡ count) }
+    ensures links { IfOk result (λ lists. AreLists build.now graph.now.nodes numbers.now count (map (λ list. list.items) lists.items)) }
+{
+    let mut scratch = Scratch::new(alloc);
+    let mut lists = Vec::new(alloc);
+    for number in 0..count {
+        let list = links_of_node(alloc, &mut scratch, numbers, build, graph, number)?;
+        lists.push(list)?;
+    }
+    Ok(lists)
+}

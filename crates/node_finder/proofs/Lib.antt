@@ -1,0 +1,2 @@
+mod FoundNodes
+mod TickSteps

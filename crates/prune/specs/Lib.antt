@@ -1,0 +1,14 @@
+pub use Rattle.graph.specs.Graph
+pub use Rattle.graph.specs.Steps
+pub use Rattle.pass_frame.specs.Frame
+pub mod Unseen
+pub mod Found
+pub mod Among
+pub mod DropSteps
+pub mod PlaceSteps
+pub mod Pruned
+pub mod Order
+pub mod OutputSteps
+pub mod LeftSteps
+pub mod PruneLaws
+pub mod Sample

@@ -1,0 +1,2 @@
+pub mod UnreachSteps
+pub mod RunsKeep

@@ -1,0 +1,111 @@
+//! What each node never passes.
+
+ghost use Rattle.std.specs.Prelude.{◌≡◌, ◌<◌, ◌≤◌, Some, EachIndex, IfOk, length, slice_index, slice_index_or};
+ghost use Rattle.graph.specs.declared.Group.TheVariants.{Side as SideGroup};
+ghost use Rattle.graph.specs.Graph.{node_at};
+ghost use Rattle.graph.specs.Readings.{share, reading};
+ghost use Rattle.graph.specs.Steps.{fixed, fixed_out, bound_of, bound_at};
+ghost use Rattle.graph.specs.Stored.{plain};
+ghost use Rattle.unreach.specs.Reached.{HasBoundsOf};
+
+use graph::{Graph, Group, Kind, Link, Node, NodeKey};
+use rp_text::NoMemory;
+use std::alloc::Global;
+
+const MOST_POWER: u8 = 15;
+
+// The bounds of nodes, by their numbers.
+#[derive(Drop)]
+pub struct Bounds {
+    list: Vec<u8>,
+}
+
+impl Bounds {
+    // The bounds of these nodes.
+    pub fn new(alloc: Global, graph: &Graph, keys: &[NodeKey]) -> Result<Bounds, NoMemory>
+        ensures { IfOk result (λ bounds. HasBoundsOf graph.now.nodes keys.now bounds.list.items) }
+    {
+        let count = greatest(keys) as usize + 1;
+        let mut list = vec![in alloc; 0; count]?;
+        for key in keys {
+            list[key.number() as usize] = bound_at(graph, *key);
+        }
+        Ok(Bounds { list })
+    }
+
+    // The bound of the node.
+    pub fn of(&self, key: NodeKey) -> u8
+        requires { key < length self.now.list.items }
+        ensures { result ≡ slice_index_or self.now.list.items key 0 }
+    {
+        self.list[key.number() as usize]
+    }
+}
+
+// The greatest number of these keys, 0 where there is none.
+fn greatest(keys: &[NodeKey]) -> u32
+    ensures { EachIndex keys.now (λ index. slice_index keys.now index ≤ result) }
+{
+    keys.iter().map(|key| key.number()).max().unwrap_or(0)
+}
+
+fn bound_at(graph: &Graph, key: NodeKey) -> u8
+    ensures { result ≡ bound_at graph.now.nodes (node_at graph.now.nodes key) }
+{
+    match graph.node(key) {
+        Some(node) => bound_of(graph, node),
+        None => 0,
+    }
+}
+
+fn bound_of(graph: &Graph, node: &Node) -> u8
+    ensures { result ≡ bound_at graph.now.nodes (Some (plain node.now)) }
+{
+    match node.kind {
+        Kind::Constant => node.state,
+        Kind::Comparator { subtract: true, .. } => {
+            let side = fixed_side(graph, &node.links.items);
+            node.state.max(MOST_POWER.saturating_sub(side))
+        }
+        _ => MOST_POWER,
+    }
+}
+
+// The most that Constants bring to the side.
+fn fixed_side(graph: &Graph, links: &[Link]) -> u8
+    ensures { result ≡ reading (fixed graph.now.nodes) SideGroup links.now }
+{
+    let mut most = 0;
+    for link in links {
+        most = most.max(side_share(graph, link));
+    }
+    most
+}
+
+fn side_share(graph: &Graph, link: &Link) -> u8
+    ensures { result ≡ share (fixed graph.now.nodes) SideGroup link.now }
+{
+    match link.group {
+        Group::Side => fixed_at(graph, link.from).saturating_sub(link.weight),
+        Group::Back => 0,
+    }
+}
+
+// What a Constant gives, 0 for every other node.
+fn fixed_at(graph: &Graph, key: NodeKey) -> u8
+    ensures { result ≡ fixed graph.now.nodes key }
+{
+    match graph.node(key) {
+        Some(node) => fixed_out(node.kind, node.state),
+        None => 0,
+    }
+}
+
+fn fixed_out(kind: Kind, state: u8) -> u8
+    ensures { result ≡ fixed_out kind state }
+{
+    match kind {
+        Kind::Constant => state,
+        _ => 0,
+    }
+}

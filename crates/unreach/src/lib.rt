@@ -1,0 +1,87 @@
+//! A pass that drops links which weigh as much as their source ever gives.
+#![tactic(auto)]
+
+ghost use Rattle.std.specs.Prelude.{◌≡◌, ◌+◌, ◌<◌, ◌^◌, OnOk, OnSome};
+ghost use Rattle.graph.specs.Graph.{node_at};
+ghost use Rattle.graph.specs.LinkAt.{link_at, EachLink, SameOthers};
+ghost use Rattle.graph.specs.Sound.{IsSound};
+ghost use Rattle.graph.specs.Steps.{Unreaches};
+ghost use Rattle.pass_frame.specs.Frame.{Ran, IsDone};
+ghost use Rattle.pass_frame.specs.Took.{Took};
+ghost use Rattle.unreach.specs.Reached.{HasBound, IsReached, SameBounds};
+
+use bounds::Bounds;
+use graph::{Graph, Link, NodeKey};
+use pass_frame::Pass;
+use rp_text::NoMemory;
+
+mod bounds;
+pub mod laws;
+#[cfg(test)]
+mod tests;
+
+/// Drops each link that weighs at least the bound of its source: the state of a Constant; for a
+/// comparator that subtracts 15 less what Constants bring to its side, or its own state where
+/// that is more; and 15 for every other node.
+///
+/// No drop changes a bound, so the bounds are found once, and each link is looked at twice.
+#[derive(Drop)]
+pub struct Unreach;
+
+impl Pass for Unreach {
+    ghost step = { Unreaches };
+
+    fn run(&mut self, graph: &mut Graph) -> Result<bool, NoMemory>
+        requires { IsSound graph.old.nodes }
+        ensures ran { Ran Unreaches graph.old.nodes result graph.new.nodes }
+        ensures done { OnOk result (IsDone Unreaches graph.new.nodes) }
+    {
+        let mut took = false;
+        let keys = graph.keys()?;
+        let bounds = Bounds::new(*keys.allocator(), graph, &keys)?;
+        for key in &keys {
+            took |= drop_spent_links(graph, *key, &bounds);
+        }
+        Ok(took)
+    }
+
+    ghost use Rattle.unreach.specs.UnreachLaws.{unreach_keeps_sound, unreach_refines, unreach_falls};
+
+    ghost keeps_sound = { unreach_keeps_sound };
+
+    ghost refines = { unreach_refines };
+
+    ghost falls = { unreach_falls };
+}
+
+// Drops the links into the node that weigh too much, and says whether there was one.
+fn drop_spent_links(graph: &mut Graph, key: NodeKey, bounds: &Bounds) -> bool
+    requires { EachLink (λ link. HasBound graph.old.nodes bounds.now.list.items link.from) (node_at graph.old.nodes key) }
+    ensures took { Took Unreaches graph.old.nodes result graph.new.nodes }
+    ensures reached { IsReached bounds.now.list.items (node_at graph.new.nodes key) }
+    ensures others { SameOthers graph.old.nodes graph.new.nodes key }
+    ensures bounds { SameBounds graph.old.nodes graph.new.nodes }
+{
+    let mut took = false;
+    let mut index = 0;
+    while let Some(link) = link_at(graph, key, index) {
+        if link.weight >= bounds.of(link.from) {
+            graph.drop_link(key, index);
+            took = true;
+        } else {
+            index += 1;
+        }
+    }
+    took
+}
+
+// The link of this index into the node.
+fn link_at(graph: &Graph, key: NodeKey, index: usize) -> Option<Link>
+    ensures value { result ≡ link_at graph.now.nodes key index }
+
+    // No list is as long as a number can be.
+    ensures small { OnSome result (index + 1 < 2 ^ 64) }
+{
+    let node = graph.node(key)?;
+    node.links.items.as_slice().get(index).copied()
+}
