@@ -1,6 +1,6 @@
 -- A graph of good nodes is sound.
 use Rattle.std.proofs.Common.{◌≡◌, ◌≢◌, ◌⊎◌, ℕ, zero, suc, ◌+◌, ◌<◌, ◌≤◌, Bool, true, false, List, [], ◌∷◌, ◌++◌, length, get_or, Option, Some, None, refl, sym, ap, ◌∙◌, subst, arith, inl, inr, pos}
-use Rattle.std.specs.Prelude.{◌==◌, ◌&&◌, ◌||◌, nat_le, is_some, slice_get, IfSome}
+use Rattle.std.specs.Prelude.{◌==◌, ◌&&◌, ◌||◌, nat_le, is_some, slice_get, IfSome, if◌then◌else◌}
 use Rattle.std.specs.List.{list_all}
 use Rattle.std.specs.Ordering.{int_eq}
 use Rattle.std.proofs.lemmas.Bool.{cases_Bool, cases_lt, and_parts, eqb-true, leb-true, false≢true}
@@ -12,8 +12,8 @@ use Rattle.graph.specs.declared.Kind.TheVariants.{Button, Repeater, Comparator}
 use Rattle.graph.specs.declared.Link.{Link}
 use Rattle.graph.specs.Graph.{Node, Nodes, node_at, Lives}
 use Rattle.graph.specs.GraphCircuit.{role_of}
-use Rattle.graph.specs.Sound.{top_of, IsKindInRange, IsSoundNode, places_of, IsSound}
-use Rattle.graph_machine.specs.Good.{is_small, is_kind_good, is_link_good, is_alone, is_node_good, is_entry_good}
+use Rattle.graph.specs.Sound.{can_wait, top_of, IsKindInRange, IsSoundNode, places_of, IsSound}
+use Rattle.graph_machine.specs.Good.{is_small, is_kind_good, is_tick_good, is_link_good, is_alone, is_node_good, is_entry_good}
 
 either_true : (a b : Bool) → a || b ≡ true → (a ≡ true) ⊎ (b ≡ true)
 either_true true b h = inl refl
@@ -34,6 +34,26 @@ all_here test [] h index link e = absurd (cc)
 all_here test (l ∷ links) h zero link e = let parts = and_parts (test l) (list_all test links) h in let same : l ≡ link = cc in ap test (sym same) ∙ parts.0
 all_here test (l ∷ links) h (suc index) link e = let parts = and_parts (test l) (list_all test links) h in all_here test links parts.1 index link e
 
+otherwise : (b x y : Bool) → (if b then x else y) ≡ true → (b ≡ true → ⊥) → y ≡ true
+otherwise true x y h never = absurd (never refl)
+otherwise false x y h never = h
+
+record TickFits (kind : Kind) (ticks rank : ℕ) : Type 0 where
+  due : ticks ≤ 15
+  priority : rank ≤ 3
+  waiting : ticks ≢ 0 → can_wait kind ≡ true
+  idle : ticks ≡ 0 → rank ≡ 0
+
+tick_fits : (kind : Kind) (due priority : ℕ) → is_tick_good kind due priority ≡ true → TickFits kind due priority
+tick_fits kind zero priority h =
+    let none : priority ≡ 0 = eqb-true priority 0 h in
+    record { due = omega arith; priority = omega (arith, none); waiting = λ w. absurd (w refl); idle = λ i. none }
+tick_fits kind (suc left) priority h =
+    let waits : can_wait kind && (nat_le (suc left) 15 && nat_le priority 3) ≡ true = otherwise (suc left == 0) (priority == 0) _ h (λ e. let none : suc left ≡ 0 = eqb-true (suc left) 0 e in absurd (omega (arith, none))) in
+    let a = and_parts (can_wait kind) (nat_le (suc left) 15 && nat_le priority 3) waits in
+    let b = and_parts (nat_le (suc left) 15) (nat_le priority 3) a.1 in
+    record { due = leb-true (suc left) 15 b.0; priority = leb-true priority 3 b.1; waiting = λ w. a.0; idle = λ i. absurd (omega (arith, i)) }
+
 record Good (g : Nodes) (key : ℕ) (node : Node) : Type 0 where
   sound : IsSoundNode g node
   x : node.pos.x ≡ pos key
@@ -43,20 +63,18 @@ good_node : (g : Nodes) (key : ℕ) (node : Node) → is_node_good g key node �
 good_node g key node h =
     let a = and_parts (nat_le node.state (top_of (role_of node.kind))) _ h in
     let b = and_parts (is_kind_good node.kind) _ a.1 in
-    let c = and_parts (node.due == 0) _ b.1 in
-    let d = and_parts (node.priority == 0) _ c.1 in
-    let e = and_parts (list_all (is_link_good g) node.links) (is_alone key node) d.1 in
+    let c = and_parts (is_tick_good node.kind node.due node.priority) _ b.1 in
+    let e = and_parts (list_all (is_link_good g) node.links) (is_alone key node) c.1 in
     let f = and_parts (int_eq node.pos.x (pos key)) (length node.also == 0) e.1 in
-    let due : node.due ≡ 0 = eqb-true node.due 0 c.0 in
-    let priority : node.priority ≡ 0 = eqb-true node.priority 0 d.0 in
+    let tick = tick_fits node.kind node.due node.priority c.0 in
     record {
       sound = record {
         state = leb-true node.state (top_of (role_of node.kind)) a.0;
         kind = in_range node.kind b.0;
-        due = omega (arith, due);
-        priority = omega (arith, priority);
-        waiting = λ w. absurd (w due);
-        idle = λ i. priority;
+        due = tick.due;
+        priority = tick.priority;
+        waiting = tick.waiting;
+        idle = tick.idle;
         links = λ index link at.
             let parts = and_parts (nat_le link.weight 15) (is_some (node_at g link.from)) (all_here (is_link_good g) node.links e.0 index link at) in
             (leb-true link.weight 15 parts.0, parts.1);
