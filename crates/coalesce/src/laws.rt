@@ -11,9 +11,9 @@ ghost use Rattle.coalesce.specs.Order.{in_pairs};
 /// For each run of the graph after a step the graph before it has a run with the same views.
 ///
 /// Its firing lists are those of the run with the dropped node put right after the kept one. In
-/// the end, and so, since each prefix of a script is a script, at the start and after each event,
-/// both have equal values, pending ticks and times at all nodes but the dropped one, which has
-/// the value and the pending tick of the kept one.
+/// the end, and so, since each prefix of a script is a script, at the start and after each click
+/// and tick, both have equal values, pending ticks and times at all nodes but the dropped one,
+/// which has the value and the pending tick of the kept one.
 pub fn coalescing_keeps_the_order()
     ensures { (old new : Nodes) → IsSound old → (step : Coalesces old new) →
         RefinesBy (graph_circuit old) (graph_circuit new) (in_pairs step.keep step.gone) (TwinStates step.keep step.gone) }

@@ -8,3 +8,4 @@ pub mod ShownSteps
 pub mod WiringSteps
 pub mod StartSteps
 pub mod GoodSteps
+mod Rows
