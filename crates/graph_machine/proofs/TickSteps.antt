@@ -52,6 +52,14 @@ count_nodes p from (Some node ∷ g) h =
     let one : one_if (p from) ≤ 1 = elim (p from) as (λ b. one_if b ≤ 1) [ true ↦ omega arith | false ↦ omega arith ] in
     omega (arith, rest, one, count_cons is_some (Some node) g)
 
+nodes_within : (g : Nodes) (count : ℕ) → ((key : ℕ) → count ≤ key → node_at g key ≡ None) → count_by is_some g ≤ count
+nodes_within [] count past = omega arith
+nodes_within (None ∷ g) zero past = omega (arith, count_cons is_some None g, nodes_within g zero (λ key h. past (suc key) (omega arith)))
+nodes_within (Some node ∷ g) zero past = (let clash : Some node ≡ None = past 0 (omega arith) in absurd (cc))
+nodes_within (entry ∷ g) (suc count) past =
+    let one : one_if (is_some entry) ≤ 1 = elim (is_some entry) as (λ b. one_if b ≤ 1) [ true ↦ omega arith | false ↦ omega arith ] in
+    omega (arith, one, count_cons is_some entry g, nodes_within g count (λ key h. past (suc key) (omega arith)))
+
 module _ (g : Nodes) where
   abbrev C : Circuit ℕ
   C = graph_circuit g
@@ -72,6 +80,10 @@ module _ (g : Nodes) where
   -- no more are due than there are nodes
   pub due_le : (s : State ℕ) → due_count g s ≤ node_count g
   due_le s = count_nodes (due_key g s) 0 g (λ j e. let here : j ≡ 0 + j = omega arith in let none : due_key g s j ≡ false = rw e refl in subst (λ k. due_key g s k ≡ false) here none)
+
+  -- and there are no more nodes than keys
+  pub due_within : (s : State ℕ) (count : ℕ) → ((key : ℕ) → count ≤ key → node_at g key ≡ None) → due_count g s ≤ count
+  due_within s count past = omega (arith, due_le s, nodes_within g count past)
 
   -- a firing leaves fewer
   pub firing_lowers : (s new : State ℕ) (key : ℕ) → 0 < s.time → FiresOne g s new key → due_count g new < due_count g s

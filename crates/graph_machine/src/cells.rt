@@ -1,4 +1,4 @@
-// What the nodes hold, with a queue of their pending ticks.
+//! What the nodes hold, with a queue of their pending ticks.
 
 ghost use Rattle.std.specs.Prelude.{◌≡◌, ◌+◌, ◌-◌, ◌<◌, ◌≤◌, ◌^◌, [], All, IfOk, IfSome, length, slice_set, if◌then◌else◌};
 ghost use Rattle.graph_machine.specs.Held.{Holding, IsSoon, CanFollow, IsNow, NoneNow, TakesFirst, cell_of, waits, with_tick, wait_of, IsHeld, Takes};
@@ -8,6 +8,13 @@ use rp_text::NoMemory;
 use std::alloc::Global;
 use std::marker::Model;
 use tick_queue::{Queue, RingQueue, Tick};
+
+/// What a key without a node holds.
+pub const NOTHING: Cell = Cell {
+    value: 0,
+    due: 0,
+    priority: 0,
+};
 
 /// A pending tick: how many ticks of time are left, 1 to 15, and its priority.
 #[derive(Clone, Copy, PartialEq, Eq, Debug)]
@@ -90,11 +97,7 @@ fn cell_at(cells: &[Cell], key: usize) -> Cell
 {
     match cells.get(key) {
         Some(cell) => *cell,
-        None => Cell {
-            value: 0,
-            due: 0,
-            priority: 0,
-        },
+        None => NOTHING,
     }
 }
 

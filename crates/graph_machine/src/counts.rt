@@ -1,4 +1,4 @@
-// How many links bring each strength to a node.
+//! How many links bring each strength to a node.
 
 ghost use Rattle.std.specs.Prelude.{◌≡◌, ◌+◌, ◌<◌, ◌≤◌, ◌^◌, ◌==◌, ◌&&◌, ℕ, slice_index};
 ghost use Rattle.graph.specs.declared.Group.{Group};

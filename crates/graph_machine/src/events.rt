@@ -1,4 +1,4 @@
-// The events of a graph that plays, and what each of them leads to.
+//! The events of a graph that plays, and what each of them leads to.
 
 ghost use Rattle.std.specs.Prelude.{◌≡◌, ◌+◌, ◌<◌, ◌≤◌, ◌^◌, ℕ, Some, IfSome, length, slice_set};
 ghost use Rattle.circuit.specs.Bounds.{Bounded};
@@ -192,6 +192,7 @@ pub fn fire_due<L: Ledger>(
     requires room { due_count net.old.nodes (held_state cells.old) ≤ fired.old.spare }
     ensures nodes { net.new.nodes ≡ net.old.nodes }
     ensures fires { FiresDue net.old.nodes (held_state cells.old) (held_state cells.new) fired.old.keys fired.new.keys steps.old steps.new }
+    ensures few { length fired.new.keys ≤ length fired.old.keys + due_count net.old.nodes (held_state cells.old) }
     ensures room { fired.new.room ≡ fired.old.room }
     ensures none { NoneNow cells.new }
     ensures playing { IsPlaying net.new cells.new }
@@ -217,13 +218,14 @@ pub fn tick<L: Ledger>(
     ensures nodes { net.new.nodes ≡ net.old.nodes }
     ensures fires { FiresDue net.old.nodes (later (held_state cells.old)) (held_state cells.new) fired.old.keys fired.new.keys steps.old steps.new }
     ensures count { length fired.new.keys ≡ length fired.old.keys + result }
-    ensures few { result < 2 ^ 62 }
+    ensures few { result ≤ 2 ^ 32 }
     ensures room { fired.new.room ≡ fired.old.room }
     ensures time { cells.new.time ≡ cells.old.time + 1 }
     ensures none { NoneNow cells.new }
     ensures playing { IsPlaying net.new cells.new }
     ensures still { AllStill net.new cells.new }
 {
+    let _ = net.len();
     let before = fired.keys().len();
     cells.advance();
     fire_due(net, cells, fired, steps);

@@ -1,4 +1,4 @@
-// The keys that fired in a tick.
+//! The keys that fired in a tick.
 
 ghost use Rattle.std.specs.Prelude.{◌≡◌, ◌+◌, ◌<◌, ◌≤◌, [], ◌∷◌, ◌++◌, IfOk};
 

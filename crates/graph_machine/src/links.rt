@@ -1,4 +1,4 @@
-// The links out of the nodes of a started machine. Each read of one is counted.
+//! The links out of the nodes of a started machine. Each read of one is counted.
 
 ghost use Rattle.std.specs.Prelude.{◌≡◌, ◌+◌, ◌<◌, ◌^◌, ℕ, [], ◌∷◌, ◌++◌, IfOk, OnOk, OnErr, length, slice_index_or, slice_set};
 ghost use Rattle.graph_machine.specs.Counted.{row};

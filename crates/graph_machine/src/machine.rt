@@ -1,4 +1,4 @@
-// A compiled graph that plays.
+//! A compiled graph that plays.
 
 ghost use Rattle.std.specs.Prelude.{◌≡◌, ◌+◌, ◌*◌, ◌<◌, ◌≤◌, ◌++◌, ◌^◌, ℕ, List, All, IfOk, IfSome, OnOk, OnErr, length};
 ghost use Rattle.circuit.specs.Circuit.{start, view};
@@ -103,6 +103,7 @@ impl Machine {
         requires few { self.old.events < 2 ^ 62 }
         ensures nodes { self.new.nodes ≡ self.old.nodes }
         ensures time { self.new.time ≡ self.old.time + 1 }
+        ensures few { self.new.events ≤ self.old.events + 2 ^ 32 }
         ensures ticked { (keys : List ℕ) × TakesTick self.old.nodes keys (state_in self.old) (state_in self.new) self.old.events self.new.events steps.old steps.new }
     {
         self.fired.clear();
@@ -117,6 +118,7 @@ impl Machine {
         requires room { node_count self.old.nodes ≤ fired.old.spare }
         ensures nodes { self.new.nodes ≡ self.old.nodes }
         ensures time { self.new.time ≡ self.old.time + 1 }
+        ensures few { self.new.events ≤ self.old.events + 2 ^ 32 }
         ensures ticked { (keys : List ℕ) × TakesTick self.old.nodes keys (state_in self.old) (state_in self.new) self.old.events self.new.events steps.old steps.new × fired.new.keys ≡ fired.old.keys ++ keys }
         ensures room { fired.new.room ≡ fired.old.room }
     {

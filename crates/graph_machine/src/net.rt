@@ -1,4 +1,4 @@
-// What the nodes give and read.
+//! What the nodes give and read.
 
 ghost use Rattle.std.specs.Prelude.{◌≡◌, ◌+◌, ◌-◌, ◌*◌, ◌<◌, ◌≤◌, ◌^◌, ◌⊎◌, ℕ, length, slice_index, slice_index_or, slice_set, All, None, IfOk};
 ghost use Rattle.circuit.specs.Circuit.{outs};

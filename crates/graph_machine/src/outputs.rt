@@ -1,4 +1,4 @@
-// What a started machine shows, and who takes a click.
+//! What a started machine shows, and who takes a click.
 
 ghost use Rattle.std.specs.Prelude.{◌≡◌, ◌<◌, ◌≤◌, ◌^◌, not, ℕ, All, map, length, IfOk, IfSome, IfNone, OnOk, option_map, Some};
 ghost use Rattle.std.specs.List.{prefix_len};

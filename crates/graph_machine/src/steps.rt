@@ -1,4 +1,4 @@
-// A counter of reads.
+//! A counter of reads.
 
 ghost use Rattle.std.specs.Prelude.{◌≡◌, ◌+◌};
 

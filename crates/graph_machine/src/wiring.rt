@@ -1,4 +1,4 @@
-// How a graph is laid out for a machine.
+//! How a graph is laid out for a machine.
 
 ghost use Rattle.std.specs.Prelude.{◌≡◌, ◌+◌, ◌-◌, ◌<◌, ◌≤◌, ◌^◌, ◌==◌, max, ℕ, [], All, None, length, count_by, IfOk, IfSome, OnOk, option_map, option_copied, slice_index_or};
 ghost use Rattle.circuit.specs.Component.{top};
@@ -14,6 +14,7 @@ ghost use Rattle.graph_machine.specs.Outgoing.{links_at};
 ghost use Rattle.graph_machine.specs.Wired.{given, part_at};
 ghost use Rattle.graph_machine.specs.Wiring.{IsSmall, role_out, part_out, WiresLinks, IsKept, WiredUp};
 
+use crate::cells::NOTHING;
 use crate::counts::Counts;
 use crate::links::{OutLink, OutLinks};
 use crate::net::{Part, role_of};
@@ -211,11 +212,7 @@ fn begin_of(role: Option<Component>, cell: Cell) -> Cell
 {
     match role {
         Some(_) => cell,
-        None => Cell {
-            value: 0,
-            due: 0,
-            priority: 0,
-        },
+        None => NOTHING,
     }
 }
 
@@ -232,11 +229,7 @@ fn begin_cell(node: Option<&Node>) -> Cell
                 priority: node.priority,
             },
         ),
-        None => Cell {
-            value: 0,
-            due: 0,
-            priority: 0,
-        },
+        None => NOTHING,
     }
 }
 

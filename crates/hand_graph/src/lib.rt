@@ -2,6 +2,7 @@
 #![tactic(auto)]
 
 ghost use Rattle.std.specs.Prelude.{◌≡◌, ◌<◌, [], length, IfOk, IfSome, OnOk};
+ghost use Rattle.graph.specs.declared.Group.TheVariants.{Back, Side};
 ghost use Rattle.graph.specs.Sound.{IsSound};
 
 use graph::{Graph, Group, Kind, Link, Links, Node, Places, Pos};
@@ -13,11 +14,12 @@ use std::alloc::Global;
 mod sound;
 
 /// A node of a graph made by hand: where it stands, what it is, its state, and the ticks until its
-/// pending tick.
+/// pending tick, 0 where it has none. A pending tick has the priority 3. No node is `first`.
 pub type Row = (Pos, Kind, u8, u8);
 
 /// The graph of these nodes, numbered from 0, and these links, each behind the number of its
-/// target, or `None` where it isn't sound.
+/// target. It is `None` where that graph isn't sound. A link is left out where one of its ends
+/// doesn't live.
 pub fn sound_graph(
     alloc: Global,
     nodes: &[Row],
@@ -36,7 +38,9 @@ pub fn sound_graph(
 }
 
 /// A link to the back of a node.
-pub fn back(from: u32, weight: u8) -> Link {
+pub fn back(from: u32, weight: u8) -> Link
+    ensures { result ≡ record { from = from; group = Back; weight = weight } }
+{
     Link {
         from: Key::new(from),
         group: Group::Back,
@@ -45,7 +49,9 @@ pub fn back(from: u32, weight: u8) -> Link {
 }
 
 /// A link to the side of a node.
-pub fn side(from: u32, weight: u8) -> Link {
+pub fn side(from: u32, weight: u8) -> Link
+    ensures { result ≡ record { from = from; group = Side; weight = weight } }
+{
     Link {
         from: Key::new(from),
         group: Group::Side,
@@ -64,7 +70,7 @@ fn graph_of(alloc: Global, nodes: &[Row]) -> Result<Graph, NoMemory>
     Ok(graph)
 }
 
-// A node without links and further places. Its pending tick has the priority 3.
+// A node without links and further places.
 fn node(alloc: Global, pos: Pos, kind: Kind, state: u8, due: u8) -> Node
     ensures { result.links.items ≡ [] }
 {

@@ -59,7 +59,7 @@ fn is_in_range(kind: Kind) -> bool
     ensures { IsTrue result → IsKindInRange kind }
 {
     match kind {
-        Kind::Button { .. } => false,
+        Kind::Button { delay } => delay == 10 || delay == 15,
         Kind::Repeater { delay } => delay >= 1 && delay <= 4,
         Kind::Comparator { direct, far, .. } => is_power(direct) && is_power(far),
         _ => true,

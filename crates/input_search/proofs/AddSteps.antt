@@ -1,6 +1,6 @@
 -- Links that go into one node, one by one.
-use Rattle.std.proofs.Common.{◌≡◌, ℕ, zero, suc, ◌+◌, ◌<◌, ◌≤◌, true, List, [], ◌∷◌, ◌++◌, length, take, get_or, set, Option, Some, None, Result, Ok, Err, refl, sym, ◌∙◌, ap, subst, inl, inr, arith, true≢false}
-use Rattle.std.specs.Prelude.{option_map, is_some, IsOk, OnOk, OnErr}
+use Rattle.std.proofs.Common.{◌≡◌, ℕ, zero, suc, ◌+◌, ◌<◌, List, [], ◌∷◌, ◌++◌, length, take, get_or, set, Option, Some, None, refl, sym, ◌∙◌, ap, inl, inr}
+use Rattle.std.specs.Prelude.{option_map, is_some}
 use Rattle.std.proofs.lemmas.Bool.{cases_eq, cases_lt, false≢true}
 use Rattle.std.proofs.lemmas.List.{get_or-set_same, get_or-set_other, set-get_or, get_or_past, take_more}
 use Rattle.graph.specs.declared.Link.{Link}
@@ -9,13 +9,13 @@ use Rattle.graph.specs.Links.{in_groups}
 use Rattle.graph.specs.Edits.{change, with_link, add_link}
 use Rattle.input_search.specs.Added.{links_under, with_links}
 
-lives_below : (g : Nodes) (key : ℕ) → Lives g key → key < length g
+pub lives_below : (g : Nodes) (key : ℕ) → Lives g key → key < length g
 lives_below g key h = elim (cases_lt key (length g)) [
   | inl below ↦ below
   | inr past ↦ absurd (false≢true (sym (ap is_some (get_or_past g key None past)) ∙ h))
 ]
 
-mapped_lives : (f : Node → Node) (o : Option Node) → is_some (option_map f o) ≡ is_some o
+pub mapped_lives : (f : Node → Node) (o : Option Node) → is_some (option_map f o) ≡ is_some o
 mapped_lives f None = refl
 mapped_lives f (Some n) = refl
 
@@ -43,7 +43,7 @@ add_next g to link xs ys here e =
     ∙ ap (λ (o : Option Node). set g to (option_map (with_link link) o)) (get_or-set_same g to (option_map (with_links xs) (node_at g to)) None (lives_below g to here))
     ∙ ap (set g to) (one_link link xs ys (node_at g to) e)
 
-no_change : (o : Option Node) → links_under o ≡ [] → o ≡ option_map (with_links []) o
+pub no_change : (o : Option Node) → links_under o ≡ [] → o ≡ option_map (with_links []) o
 no_change None e = refl
 no_change (Some n) e = ap (λ (links : List Link). Some (with_links links n)) e
 

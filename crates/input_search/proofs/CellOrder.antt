@@ -1,7 +1,7 @@
 -- Cells in order, each once: a sorted list without repeats is the part of all cells that it has.
-use Rattle.std.proofs.Common.{◌≡◌, ◌≢◌, ℕ, zero, suc, ◌+◌, ◌<◌, ◌≤◌, Bool, true, false, Option, Some, None, List, [], ◌∷◌, map, refl, sym, ◌∙◌, ap, inl, inr, arith, eq-eqb, eqb-true}
-use Rattle.std.specs.Prelude.{filter, All, ◌&&◌, Contains, is_some}
-use Rattle.std.specs.List.{list_any, range_with_len, dedup, AllByRecursion, filter_map, cons_option}
+use Rattle.std.proofs.Common.{◌≡◌, ◌≢◌, ℕ, zero, suc, ◌+◌, ◌<◌, ◌≤◌, Bool, true, false, Option, Some, None, List, [], ◌∷◌, refl, sym, ◌∙◌, ap, inl, inr, arith, eq-eqb, eqb-true}
+use Rattle.std.specs.Prelude.{filter, All, ◌&&◌, is_some}
+use Rattle.std.specs.List.{range_with_len, dedup, AllByRecursion, cons_option}
 use Rattle.std.specs.List.Sorted.{IsStrictlySortedBy, IsPermutation, IsSorted}
 use Rattle.std.specs.Ordering.{nat_cmp}
 use Rattle.std.specs.Cmp.{nat_cmp_is, nat_eq_equiv}
@@ -16,7 +16,7 @@ use Rattle.std.proofs.lemmas.Map.Views.{any-filter_same, list_any-from_Contains,
 use Rattle.circuit.specs.declared.Pos.{Pos}
 use Rattle.build.specs.Place.{same_place}
 use Rattle.build.specs.SamePlace.{place_one, place_itself}
-use Rattle.build.specs.Plan.{Plan, volume, in_box, cell_of, place_of, places, found_cell}
+use Rattle.build.specs.Plan.{Plan, volume, cell_of, place_of, places, found_cell}
 use Rattle.build.specs.Places.{found-cell_of, found_inside, found-is_some, found_below, place_inside, cell-place, place-cell, inside}
 use Rattle.input_search.specs.Links.{among}
 use Rattle.input_search.specs.CellLists.{has_cell, kept_cells, cells_of, places_of, AreCells}

@@ -8,7 +8,7 @@ use Rattle.std.proofs.lemmas.List.{take_more, map-append, append-nil}
 use Rattle.circuit.specs.declared.Pos.{Pos}
 use Rattle.build.specs.Place.{same_place}
 use Rattle.build.specs.SamePlace.{place_one}
-use Rattle.build.specs.Plan.{Plan, volume, places, place_of, found_cell, cell_of}
+use Rattle.build.specs.Plan.{Plan, volume, places, place_of}
 use Rattle.build.specs.Places.{found_inside, place-cell, inside}
 use Rattle.wire_shape.specs.Shape.{wire_at}
 use Rattle.wire_shape.specs.WirePlaces.{wire_inside}

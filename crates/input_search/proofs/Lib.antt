@@ -16,3 +16,5 @@ mod LevelSteps
 mod ListSteps
 mod RankSteps
 mod ReaderTaps
+mod FillSteps
+mod RawLinks

@@ -49,7 +49,7 @@ each-at P [] i d l h = absurd (omega arith)
 each-at P (x ∷ xs) zero d l h = h.0
 each-at P (x ∷ xs) (suc i) d l h = each-at P xs i d (omega arith) h.1
 
-before-pairs : {A : Type 0} (R : A → A → Type 0) (xs : List A) → EachBefore R xs → AllPairs R xs
+pub before-pairs : {A : Type 0} (R : A → A → Type 0) (xs : List A) → EachBefore R xs → AllPairs R xs
 before-pairs R [] h i j d l k = absurd (omega arith)
 before-pairs R (x ∷ xs) h zero zero d l k = absurd (omega arith)
 before-pairs R (x ∷ xs) h zero (suc j) d l k = each-at (R x) xs j d (omega arith) h.0

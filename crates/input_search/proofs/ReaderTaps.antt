@@ -1,5 +1,5 @@
 -- The taps of readers: their links are those of the definition, and their wires are wires.
-use Rattle.std.proofs.Common.{◌≡◌, Bool, true, false, List, [], ◌∷◌, refl, sym, ◌∙◌, ap, subst, inl, inr}
+use Rattle.std.proofs.Common.{◌≡◌, Bool, true, false, List, [], ◌∷◌, refl, ap, inl, inr}
 use Rattle.std.specs.Prelude.{All, is_some}
 use Rattle.std.specs.List.{flat_map}
 use Rattle.std.proofs.lemmas.Bool.{cases_Bool}
@@ -14,7 +14,7 @@ use Rattle.circuit.specs.Circuit.{Among}
 use Rattle.build.specs.Place.{sides}
 use Rattle.build.specs.Plan.{Plan, block_at}
 use Rattle.build.specs.Roles.{direct_at}
-use Rattle.wire_shape.specs.Shape.{across, wire_at, is_wire}
+use Rattle.wire_shape.specs.Shape.{across, is_wire}
 use Rattle.input_search.specs.Taps.{Tap, Direct, Wired, back_taps, side_taps}
 use Rattle.input_search.specs.Links.{through, back_links_of, side_links_of}
 use Rattle.input_search.specs.Readers.{IsWired, reader_taps, reader_side_taps}

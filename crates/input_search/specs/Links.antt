@@ -1,7 +1,6 @@
 -- The links into the nodes of a build, by places: from what a reader taps, at its distance.
-use Rattle.std.specs.Prelude.{ℕ, zero, suc, Bool, true, false, not, ◌&&◌, if◌then◌else◌, List, [], ◌∷◌, ◌++◌, map, filter, Option, Some, None, is_some}
+use Rattle.std.specs.Prelude.{ℕ, zero, suc, Bool, true, false, not, ◌&&◌, if◌then◌else◌, List, [], ◌∷◌, ◌++◌, map, filter, is_some}
 use Rattle.std.specs.List.{flat_map, list_any}
-use Rattle.block_table.specs.declared.Side.{Side}
 use Rattle.block_table.specs.declared.Side.TheVariants.{Down}
 use Rattle.block_table.specs.declared.Block.{Block}
 use Rattle.block_table.specs.declared.Block.TheVariants.{Wire, Torch, WallTorch, Repeater, Comparator, Lamp, Trapdoor, Note}

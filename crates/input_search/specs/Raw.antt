@@ -9,8 +9,13 @@ use Rattle.graph.specs.declared.Group.TheVariants.{Back, Side}
 use Rattle.graph.specs.declared.Link.{Link}
 use Rattle.graph.specs.Graph.{Node, Nodes, node_at}
 use Rattle.graph.specs.GraphCircuit.{place_at}
-use Rattle.graph.specs.RawNodes.{bare_node, node_places}
+use Rattle.graph.specs.RawNodes.{bare_node, bare_nodes, node_places}
 use Rattle.input_search.specs.Links.{From, back_links_of, side_links_of}
+
+-- the nodes of a build and some marks, before they are linked
+pub record IsBare (b : Plan) (g : Nodes) : Type 0 where
+  pub marks : List Pos
+  pub nodes : g ≡ bare_nodes b marks
 
 -- where a place stands in a list
 abbrev pub number_in : List Pos → Pos → ℕ

@@ -20,8 +20,8 @@ fn add_in_room(graph: &mut Graph, to: NodeKey, link: Link)
     graph.add_link(to, link).unwrap();
 }
 
-// Puts these links into a node that has none.
-fn add_all(graph: &mut Graph, to: NodeKey, links: &[Link])
+/// Puts these links into a node that has none.
+pub(crate) fn add_all(graph: &mut Graph, to: NodeKey, links: &[Link])
     requires to { Lives graph.old.nodes to }
     requires from { All (λ link. Lives graph.old.nodes link.from) links.now }
     requires room { length links.now ≤ spare_of graph.old to }

@@ -3,7 +3,12 @@
 
 mod add;
 pub mod laws;
-mod link;
+mod node_links;
 mod readers;
 mod search;
 mod taps;
+
+pub use node_links::link;
+
+#[cfg(test)]
+mod tests;

@@ -6,13 +6,13 @@ ghost use Rattle.std.specs.Option.{option_to_list};
 ghost use Rattle.block_table.specs.Facts.{opposite};
 ghost use Rattle.build.specs.Place.{beside, sides};
 ghost use Rattle.build.specs.Plan.{IsNear, in_box, block_at};
-ghost use Rattle.power_rules.specs.Power.{hung};
 ghost use Rattle.wire_shape.specs.Shape.{wire_at};
 ghost use Rattle.input_search.specs.Taps.{lets_weak, lets_strong, wire_gives, when, strong_taps, weak_taps, back_taps, is_turned, is_redstone, side_taps};
 
-use block_table::{Block, Face, Side, is_solid, opposite};
+use block_table::{Block, Side, is_solid, opposite};
 use build::{Build, beside};
 use circuit::Pos;
+use power_rules::hung;
 use rp_text::NoMemory;
 use wire_shape::{points, same_side, wire_at};
 
@@ -49,17 +49,6 @@ fn lets_weak(block: Block, side: Side) -> bool
             opposite(facing),
         ),
         _ => false,
-    }
-}
-
-// The side on which a lever or a button hangs.
-fn hung(face: Face, facing: Side) -> Side
-    ensures { result ≡ hung face facing }
-{
-    match face {
-        Face::Floor => Side::Down,
-        Face::Ceiling => Side::Up,
-        Face::Wall => opposite(facing),
     }
 }
 

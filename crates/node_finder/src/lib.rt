@@ -4,7 +4,7 @@
 ghost use Rattle.std.specs.Prelude.{◌≡◌, ◌<◌, List, [], ◌∷◌, OnOk, IfOk, IsTrue};
 ghost use Rattle.build.specs.declared.Pending.{Pending};
 ghost use Rattle.build.specs.Plan.{block_at, entry, in_box, volume, place_of};
-ghost use Rattle.build.specs.Roles.{button_delay, stored, waiting_at, cell_with, direct_at, far_at};
+ghost use Rattle.build.specs.Roles.{stored, waiting_at, cell_with, direct_at, far_at};
 ghost use Rattle.graph.specs.RawNodes.{has_node, kind_of, state_of, unless_direct, bare_node, bare_nodes};
 ghost use Rattle.graph.specs.Stored.{plain};
 ghost use Rattle.node_finder.specs.TicksByCell.{AreByCell};
@@ -13,21 +13,11 @@ use block_table::{Block, Side};
 use build::{Build, Marks, Pending};
 use circuit::Pos;
 use graph::{Graph, Kind, Links, Node, Places};
-use power_rules::{component, direct_strength, faces_diode, far_strength, stored_value};
+use power_rules::{button_delay, component, direct_strength, faces_diode, far_strength, stored_value};
 use rp_text::NoMemory;
 use smallvec::SmallVec;
 use std::alloc::Global;
 use std::collections::BTreeMap;
-
-// The number of the first button of wood in the list of names.
-const FIRST_WOODEN_BUTTON: u16 = 298;
-
-// For how many ticks a button stays on.
-fn button_delay(name: u16) -> u8
-    ensures { result ≡ button_delay name }
-{
-    if name < FIRST_WOODEN_BUTTON { 10 } else { 15 }
-}
 
 // The strength beyond counts only where the input block has none.
 fn unless_direct(direct: Option<u8>, far: Option<u8>) -> Option<u8>
@@ -202,7 +192,7 @@ fn bare_node(
 }
 
 /// The nodes of a build, without links, in order of places: one for each component, block of
-/// redstone and marked wire.
+/// redstone and marked wire. A mark where no wire stands counts for nothing.
 pub fn find(alloc: Global, build: &Build, marks: &Marks) -> Result<Graph, NoMemory>
     ensures { IfOk result (λ graph. graph.nodes ≡ bare_nodes build.now marks.now) }
 {

@@ -17,8 +17,8 @@ use wire_shape::same_side;
 // The number of the first button of wood in the list of names.
 const FIRST_WOODEN_BUTTON: u16 = 298;
 
-// For how many ticks a button stays on.
-fn button_delay(name: u16) -> u8
+/// For how many ticks the button of this name stays on: 15 for one of wood, else 10.
+pub fn button_delay(name: u16) -> u8
     ensures { result ≡ button_delay name }
 {
     if name < FIRST_WOODEN_BUTTON { 10 } else { 15 }

@@ -4,6 +4,7 @@
 #![tactic(auto)]
 
 ghost use Rattle.std.specs.Prelude.{ℕ, ◌≡◌};
+ghost use Rattle.circuit.specs.declared.Pos.{Pos as Place};
 
 mod components;
 pub mod laws;
@@ -11,21 +12,22 @@ mod power;
 #[cfg(test)]
 mod tests;
 
-ghost use Rattle.circuit.specs.declared.Pos.{Pos as Place};
-
 pub use circuit::Pos;
-pub use components::{base, component, faces_diode, goal, readings, stored_value};
+pub use components::{base, button_delay, component, faces_diode, goal, readings, stored_value};
 pub use power::{
-    back, direct_strength, far_strength, locked, read_no_dust, read_power, side_power, strong, weak,
+    back, direct_strength, far_strength, hung, locked, read_no_dust, read_power, side_power,
+    strong, weak,
 };
 
-/// What stands at each place gives: the output of a component, 15 or 0 for one that is on or off,
-/// the power of a wire, and 0 elsewhere. It is at most 15.
+/// The levels that the rules go by, one at each place: what a component there gives, which of one
+/// that is on is 15, the power of a wire, and 0 elsewhere.
 ///
-/// A lever, button, plate, torch or repeater whose level isn't 0 counts as on, and gives 15.
+/// The levels of a run are at most 15, and so are all powers then. The rules hold for higher ones
+/// too. A lever, button, plate, torch or repeater whose level isn't 0 counts as on, and gives 15.
 pub trait Levels {
     ghost level_of: { Self → Place → ℕ };
 
+    /// The level at a place, in the box or outside.
     fn level(&self, pos: Pos) -> u8
         ensures { result ≡ level_of self.now pos };
 }

@@ -17,8 +17,8 @@ pub(crate) fn full(level: u8) -> u8
     if level > 0 { 15 } else { 0 }
 }
 
-// The side on which a lever or a button hangs.
-fn hung(face: Face, facing: Side) -> Side
+/// The side of the block on which a lever or a button hangs.
+pub fn hung(face: Face, facing: Side) -> Side
     ensures { result ≡ hung face facing }
 {
     match face {
@@ -58,42 +58,15 @@ pub fn weak<L: Levels>(build: &Build, levels: &L, from: Pos, side: Side) -> u8
 pub fn strong<L: Levels>(build: &Build, levels: &L, from: Pos, side: Side) -> u8
     ensures { result ≡ strong build.now (L.level_of levels.now) from side }
 {
+    let level = levels.level(from);
     match build.at(from) {
-        Block::Torch { .. } | Block::WallTorch { .. } => {
-            if same_side(side, Side::Up) {
-                full(levels.level(from))
-            } else {
-                0
-            }
-        }
-        Block::Lever { face, facing, .. } => {
-            if same_side(side, hung(face, facing)) {
-                full(levels.level(from))
-            } else {
-                0
-            }
-        }
-        Block::Button { face, facing, .. } => {
-            if same_side(side, hung(face, facing)) {
-                full(levels.level(from))
-            } else {
-                0
-            }
-        }
-        Block::Plate { .. } => {
-            if same_side(side, Side::Down) {
-                full(levels.level(from))
-            } else {
-                0
-            }
-        }
-        Block::Weighted { .. } => {
-            if same_side(side, Side::Down) {
-                levels.level(from)
-            } else {
-                0
-            }
-        }
+        Block::Torch { .. } | Block::WallTorch { .. } if same_side(side, Side::Up) => full(level),
+        Block::Lever { face, facing, .. } | Block::Button { face, facing, .. } if same_side(
+            side,
+            hung(face, facing),
+        ) => full(level),
+        Block::Plate { .. } if same_side(side, Side::Down) => full(level),
+        Block::Weighted { .. } if same_side(side, Side::Down) => level,
         Block::Repeater { .. } | Block::Comparator { .. } | Block::Wire { .. } => {
             weak(build, levels, from, side)
         }
@@ -160,9 +133,9 @@ pub fn read_no_dust<L: Levels>(build: &Build, levels: &L, reader: Pos, side: Sid
     read_power(build, &Undusted { build, levels }, reader, side)
 }
 
-/// The greatest power that a block reads from its six neighbours, 0 to 15.
+// The greatest power that a block reads from its six neighbours.
 #[tactic(auto, unfolding(crate::specs::Power::read_around))]
-pub fn read_around<L: Levels>(build: &Build, levels: &L, pos: Pos) -> u8
+pub(crate) fn read_around<L: Levels>(build: &Build, levels: &L, pos: Pos) -> u8
     requires { IsTrue (in_box build.now pos) }
     ensures { result ≡ read_around build.now (L.level_of levels.now) pos }
 {

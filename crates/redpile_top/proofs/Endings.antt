@@ -14,10 +14,12 @@ use Rattle.report.specs.declared.GraphRefusal.{GraphRefusal}
 use Rattle.report.specs.declared.GraphRefusal.TheVariants.{NoMemory as NoMemoryOfGraph}
 use Rattle.rp_io.specs.Causes.{Rose, HasCause, Wrote, WrotePrefix}
 use Rattle.redpile_top.specs.declared.form.Form.{Form}
-use Rattle.redpile_top.specs.declared.form.Form.TheVariants.{World}
+use Rattle.redpile_top.specs.declared.form.Form.TheVariants.{OnBuild, Bench}
 use Rattle.redpile_top.specs.declared.status.Status.{Status}
 use Rattle.redpile_top.specs.declared.status.Status.TheVariants.{Done, Usage, ReadFault, WriteFault, BadBuild, BadBlock, BadScript, NoMemory}
-use Rattle.redpile_top.specs.Clauses.{Told, word, Ran, IsBuild, is_block, IsBadBuild, IsBadBlock, IsScript, IsBadScript, IsBadScriptFor, BuildCause, ScriptCause, Exactly, BuildClause, BlockClause, ScriptClause, CompleteClause, CauseOf, status_of, status_of_cause, status_of_script, status_of_graph}
+use Rattle.redpile_top.specs.Forms.{word}
+use Rattle.redpile_top.specs.Written.{WroteSummaryPrefix}
+use Rattle.redpile_top.specs.Clauses.{Told, Ran, CauseUnread, IsBuild, is_block, IsBadBuild, IsBadBlock, IsScript, IsBadScript, IsBadScriptFor, BuildCause, ScriptCause, Exactly, BuildClause, BlockClause, ScriptClause, DoneClause, FrontClause, CompleteClause, CauseOf, Did, BeganCommand, OnWriteFault, ButForWrites, status_of, status_of_cause, status_of_script, status_of_graph}
 
 -- ---- what excludes what
 
@@ -140,15 +142,18 @@ module _ (b s : Option (List ℕ)) where
 module _ (told : Told) (words : List (List ℕ)) (reading writing : Type 0) (before now : Option (List ℕ)) where
   pub build_done : (form : Option Form) → Ran form told words reading writing before now (Ok tt) → BuildClause form told words Done
   build_done None ran = λ e. cc
-  build_done (Some World) ran = λ bytes is. never (IsBadBuild bytes) BadBuild Done (λ e. cc) (not_bad_build bytes ran.done.build (ran.done.accepted.build_is bytes is))
+  build_done (Some (Bench units)) ran = λ e. cc
+  build_done (Some (OnBuild command)) ran = λ bytes is. never (IsBadBuild bytes) BadBuild Done (λ e. cc) (not_bad_build bytes ran.done.build (ran.done.accepted.build_is bytes is))
 
   pub block_done : (form : Option Form) → Ran form told words reading writing before now (Ok tt) → BlockClause form told words Done
   block_done None ran = λ e. cc
-  block_done (Some World) ran = λ bytes is. never (IsBadBlock bytes) BadBlock Done (λ e. cc) (not_bad_block bytes ran.done.build (ran.done.accepted.build_is bytes is).is)
+  block_done (Some (Bench units)) ran = λ e. cc
+  block_done (Some (OnBuild command)) ran = λ bytes is. never (IsBadBlock bytes) BadBlock Done (λ e. cc) (not_bad_block bytes ran.done.build (ran.done.accepted.build_is bytes is).is)
 
   pub script_done : (form : Option Form) → Ran form told words reading writing before now (Ok tt) → ScriptClause form told words Done
   script_done None ran = λ e. cc
-  script_done (Some World) ran = λ build_bytes is_b bytes is_s. never (IsBadScriptFor build_bytes bytes) BadScript Done (λ e. cc)
+  script_done (Some (Bench units)) ran = λ e. cc
+  script_done (Some (OnBuild command)) ran = λ build_bytes is_b bytes is_s. never (IsBadScriptFor build_bytes bytes) BadScript Done (λ e. cc)
       (not_bad_script_for build_bytes bytes ran.done.build ran.done.script (ran.done.accepted.build_is build_bytes is_b) (ran.done.accepted.script_is bytes is_s))
 
   -- words without a form are Usage
@@ -157,60 +162,76 @@ module _ (told : Told) (words : List (List ℕ)) (reading writing : Type 0) (bef
       let same : fault ≡ UsageFault = cc in
       h (subst (λ (x : Fault). status_of x ≡ answer) same f)
 
+  -- where no file is read, a write's fault or want of memory is all that comes
+  unread_alone : (fault : Fault) (answer : Status) → (WriteFault ≡ answer → ⊥) → (NoMemory ≡ answer → ⊥) → CauseUnread writing fault → status_of fault ≡ answer → ⊥
+  unread_alone Write answer a b cause e = a e
+  unread_alone Memory answer a b cause e = b e
+  unread_alone _ answer a b cause e = absurd cause
+
+  unread_complete : (fault : Fault) → CauseUnread writing fault → (status_of fault ≡ Done) ⊎ ((status_of fault ≡ WriteFault) ⊎ (status_of fault ≡ NoMemory))
+  unread_complete Write cause = inr (inl refl)
+  unread_complete Memory cause = inr (inr refl)
+  unread_complete _ cause = absurd cause
+
   pub build_failed : (fault : Fault) (form : Option Form) → Ran form told words reading writing before now (Err fault) → BuildClause form told words (status_of fault)
   build_failed fault None ran = usage_alone fault BadBuild (λ e. cc) ran.0
-  build_failed UsageFault (Some World) ran = λ bytes is. absurd ran.cause
-  build_failed Read (Some World) ran = λ bytes is. by_read (IsBadBuild bytes) BadBuild (λ e. cc)
-  build_failed Write (Some World) ran = λ bytes is. never (IsBadBuild bytes) BadBuild WriteFault (λ e. cc) (not_bad_build bytes ran.front.build (ran.front.accepted.build_is bytes is))
-  build_failed (BuildFault refusal) (Some World) ran = build_by (told (word words 1)) (plain_refusal refusal) ran.cause
-  build_failed BuildTooLong (Some World) ran = λ bytes is. here (IsBadBuild bytes) BadBuild (inl (ran.cause bytes is))
-  build_failed (ScriptFault refusal) (Some World) ran = build_by_script (told (word words 1)) (told (word words 2)) refusal ran.cause
-  build_failed ScriptTooLong (Some World) ran = λ bytes is. never (IsBadBuild bytes) BadBuild BadScript (λ e. cc) (not_bad_build bytes ran.cause.0 ((ran.cause.1).0 bytes is))
-  build_failed Memory (Some World) ran = λ bytes is. by_memory (IsBadBuild bytes) BadBuild (λ e. cc)
-  build_failed _ (Some World) ran = λ bytes is. absurd ran.cause
+  build_failed fault (Some (Bench units)) ran = unread_alone fault BadBuild (λ e. cc) (λ e. cc) ran.cause
+  build_failed UsageFault (Some (OnBuild command)) ran = λ bytes is. absurd ran.cause
+  build_failed Read (Some (OnBuild command)) ran = λ bytes is. by_read (IsBadBuild bytes) BadBuild (λ e. cc)
+  build_failed Write (Some (OnBuild command)) ran = λ bytes is. never (IsBadBuild bytes) BadBuild WriteFault (λ e. cc) (not_bad_build bytes ran.front.build (ran.front.accepted.build_is bytes is))
+  build_failed (BuildFault refusal) (Some (OnBuild command)) ran = build_by (told (word words 1)) (plain_refusal refusal) ran.cause
+  build_failed BuildTooLong (Some (OnBuild command)) ran = λ bytes is. here (IsBadBuild bytes) BadBuild (inl (ran.cause bytes is))
+  build_failed (ScriptFault refusal) (Some (OnBuild command)) ran = build_by_script (told (word words 1)) (told (word words 2)) refusal ran.cause
+  build_failed ScriptTooLong (Some (OnBuild command)) ran = λ bytes is. never (IsBadBuild bytes) BadBuild BadScript (λ e. cc) (not_bad_build bytes ran.cause.0 ((ran.cause.1).0 bytes is))
+  build_failed Memory (Some (OnBuild command)) ran = λ bytes is. by_memory (IsBadBuild bytes) BadBuild (λ e. cc)
+  build_failed _ (Some (OnBuild command)) ran = λ bytes is. absurd ran.cause
 
   pub block_failed : (fault : Fault) (form : Option Form) → Ran form told words reading writing before now (Err fault) → BlockClause form told words (status_of fault)
   block_failed fault None ran = usage_alone fault BadBlock (λ e. cc) ran.0
-  block_failed UsageFault (Some World) ran = λ bytes is. absurd ran.cause
-  block_failed Read (Some World) ran = λ bytes is. by_read (IsBadBlock bytes) BadBlock (λ e. cc)
-  block_failed Write (Some World) ran = λ bytes is. never (IsBadBlock bytes) BadBlock WriteFault (λ e. cc) (not_bad_block bytes ran.front.build (ran.front.accepted.build_is bytes is).is)
-  block_failed (BuildFault refusal) (Some World) ran = block_by (told (word words 1)) (plain_refusal refusal) ran.cause
-  block_failed BuildTooLong (Some World) ran = λ bytes is. never (IsBadBlock bytes) BadBlock BadBuild (λ e. cc) (λ bad. let within = bad.within in let long = ran.cause bytes is in omega arith)
-  block_failed (ScriptFault refusal) (Some World) ran = block_by_script (told (word words 1)) (told (word words 2)) refusal ran.cause
-  block_failed ScriptTooLong (Some World) ran = λ bytes is. never (IsBadBlock bytes) BadBlock BadScript (λ e. cc) (not_bad_block bytes ran.cause.0 ((ran.cause.1).0 bytes is).is)
-  block_failed Memory (Some World) ran = λ bytes is. by_memory (IsBadBlock bytes) BadBlock (λ e. cc)
-  block_failed _ (Some World) ran = λ bytes is. absurd ran.cause
+  block_failed fault (Some (Bench units)) ran = unread_alone fault BadBlock (λ e. cc) (λ e. cc) ran.cause
+  block_failed UsageFault (Some (OnBuild command)) ran = λ bytes is. absurd ran.cause
+  block_failed Read (Some (OnBuild command)) ran = λ bytes is. by_read (IsBadBlock bytes) BadBlock (λ e. cc)
+  block_failed Write (Some (OnBuild command)) ran = λ bytes is. never (IsBadBlock bytes) BadBlock WriteFault (λ e. cc) (not_bad_block bytes ran.front.build (ran.front.accepted.build_is bytes is).is)
+  block_failed (BuildFault refusal) (Some (OnBuild command)) ran = block_by (told (word words 1)) (plain_refusal refusal) ran.cause
+  block_failed BuildTooLong (Some (OnBuild command)) ran = λ bytes is. never (IsBadBlock bytes) BadBlock BadBuild (λ e. cc) (λ bad. let within = bad.within in let long = ran.cause bytes is in omega arith)
+  block_failed (ScriptFault refusal) (Some (OnBuild command)) ran = block_by_script (told (word words 1)) (told (word words 2)) refusal ran.cause
+  block_failed ScriptTooLong (Some (OnBuild command)) ran = λ bytes is. never (IsBadBlock bytes) BadBlock BadScript (λ e. cc) (not_bad_block bytes ran.cause.0 ((ran.cause.1).0 bytes is).is)
+  block_failed Memory (Some (OnBuild command)) ran = λ bytes is. by_memory (IsBadBlock bytes) BadBlock (λ e. cc)
+  block_failed _ (Some (OnBuild command)) ran = λ bytes is. absurd ran.cause
 
   pub script_failed : (fault : Fault) (form : Option Form) → Ran form told words reading writing before now (Err fault) → ScriptClause form told words (status_of fault)
   script_failed fault None ran = usage_alone fault BadScript (λ e. cc) ran.0
-  script_failed UsageFault (Some World) ran = λ build_bytes is_b bytes is_s. absurd ran.cause
-  script_failed Read (Some World) ran = λ build_bytes is_b bytes is_s. by_read (IsBadScriptFor build_bytes bytes) BadScript (λ e. cc)
-  script_failed Write (Some World) ran = λ build_bytes is_b bytes is_s. never (IsBadScriptFor build_bytes bytes) BadScript WriteFault (λ e. cc)
+  script_failed fault (Some (Bench units)) ran = unread_alone fault BadScript (λ e. cc) (λ e. cc) ran.cause
+  script_failed UsageFault (Some (OnBuild command)) ran = λ build_bytes is_b bytes is_s. absurd ran.cause
+  script_failed Read (Some (OnBuild command)) ran = λ build_bytes is_b bytes is_s. by_read (IsBadScriptFor build_bytes bytes) BadScript (λ e. cc)
+  script_failed Write (Some (OnBuild command)) ran = λ build_bytes is_b bytes is_s. never (IsBadScriptFor build_bytes bytes) BadScript WriteFault (λ e. cc)
       (not_bad_script_for build_bytes bytes ran.front.build ran.front.script (ran.front.accepted.build_is build_bytes is_b) (ran.front.accepted.script_is bytes is_s))
-  script_failed (BuildFault refusal) (Some World) ran = λ build_bytes is_b bytes is_s. script_refused (told (word words 1)) (plain_refusal refusal) ran.cause build_bytes bytes is_b
-  script_failed BuildTooLong (Some World) ran = λ build_bytes is_b bytes is_s. never (IsBadScriptFor build_bytes bytes) BadScript BadBuild (λ e. cc)
+  script_failed (BuildFault refusal) (Some (OnBuild command)) ran = λ build_bytes is_b bytes is_s. script_refused (told (word words 1)) (plain_refusal refusal) ran.cause build_bytes bytes is_b
+  script_failed BuildTooLong (Some (OnBuild command)) ran = λ build_bytes is_b bytes is_s. never (IsBadScriptFor build_bytes bytes) BadScript BadBuild (λ e. cc)
       (λ bad. let within = (bad.1).0.within in let long = ran.cause build_bytes is_b in omega arith)
-  script_failed (ScriptFault refusal) (Some World) ran = λ build_bytes is_b bytes is_s. script_by (told (word words 1)) (told (word words 2)) refusal ran.cause build_bytes bytes is_b is_s
-  script_failed ScriptTooLong (Some World) ran = λ build_bytes is_b bytes is_s. here (IsBadScriptFor build_bytes bytes) BadScript (ran.cause.0, ((ran.cause.1).0 build_bytes is_b, inl ((ran.cause.1).1 bytes is_s)))
-  script_failed Memory (Some World) ran = λ build_bytes is_b bytes is_s. by_memory (IsBadScriptFor build_bytes bytes) BadScript (λ e. cc)
-  script_failed _ (Some World) ran = λ build_bytes is_b bytes is_s. absurd ran.cause
+  script_failed (ScriptFault refusal) (Some (OnBuild command)) ran = λ build_bytes is_b bytes is_s. script_by (told (word words 1)) (told (word words 2)) refusal ran.cause build_bytes bytes is_b is_s
+  script_failed ScriptTooLong (Some (OnBuild command)) ran = λ build_bytes is_b bytes is_s. here (IsBadScriptFor build_bytes bytes) BadScript (ran.cause.0, ((ran.cause.1).0 build_bytes is_b, inl ((ran.cause.1).1 bytes is_s)))
+  script_failed Memory (Some (OnBuild command)) ran = λ build_bytes is_b bytes is_s. by_memory (IsBadScriptFor build_bytes bytes) BadScript (λ e. cc)
+  script_failed _ (Some (OnBuild command)) ran = λ build_bytes is_b bytes is_s. absurd ran.cause
 
   pub complete_failed : (fault : Fault) (form : Option Form) → Ran form told words reading writing before now (Err fault) → CompleteClause form told words (status_of fault)
   complete_failed fault None ran = tt
-  complete_failed UsageFault (Some World) ran = λ build script build_bytes bytes is_b is_s good fit. absurd ran.cause
-  complete_failed Read (Some World) ran = λ build script build_bytes bytes is_b is_s good fit. inr (inl refl)
-  complete_failed Write (Some World) ran = λ build script build_bytes bytes is_b is_s good fit. inr (inr (inl refl))
-  complete_failed (BuildFault refusal) (Some World) ran = λ build script build_bytes bytes is_b is_s good fit. complete_refused (told (word words 1)) (plain_refusal refusal) ran.cause build build_bytes is_b good
-  complete_failed BuildTooLong (Some World) ran = λ build script build_bytes bytes is_b is_s good fit. absurd (let within = good.within in let long = ran.cause build_bytes is_b in omega arith)
-  complete_failed (ScriptFault refusal) (Some World) ran = λ build script build_bytes bytes is_b is_s good fit.
+  complete_failed fault (Some (Bench units)) ran = unread_complete fault ran.cause
+  complete_failed UsageFault (Some (OnBuild command)) ran = λ build script build_bytes bytes is_b is_s good fit. absurd ran.cause
+  complete_failed Read (Some (OnBuild command)) ran = λ build script build_bytes bytes is_b is_s good fit. inr (inl refl)
+  complete_failed Write (Some (OnBuild command)) ran = λ build script build_bytes bytes is_b is_s good fit. inr (inr (inl refl))
+  complete_failed (BuildFault refusal) (Some (OnBuild command)) ran = λ build script build_bytes bytes is_b is_s good fit. complete_refused (told (word words 1)) (plain_refusal refusal) ran.cause build build_bytes is_b good
+  complete_failed BuildTooLong (Some (OnBuild command)) ran = λ build script build_bytes bytes is_b is_s good fit. absurd (let within = good.within in let long = ran.cause build_bytes is_b in omega arith)
+  complete_failed (ScriptFault refusal) (Some (OnBuild command)) ran = λ build script build_bytes bytes is_b is_s good fit.
       complete_by (told (word words 1)) (told (word words 2)) refusal ran.cause build script build_bytes bytes is_b is_s good fit
-  complete_failed ScriptTooLong (Some World) ran = λ build script build_bytes bytes is_b is_s good fit. absurd (let within = fit.within in let long = (ran.cause.1).1 bytes is_s in omega arith)
-  complete_failed Memory (Some World) ran = λ build script build_bytes bytes is_b is_s good fit. inr (inr (inr refl))
-  complete_failed _ (Some World) ran = λ build script build_bytes bytes is_b is_s good fit. absurd ran.cause
+  complete_failed ScriptTooLong (Some (OnBuild command)) ran = λ build script build_bytes bytes is_b is_s good fit. absurd (let within = fit.within in let long = (ran.cause.1).1 bytes is_s in omega arith)
+  complete_failed Memory (Some (OnBuild command)) ran = λ build script build_bytes bytes is_b is_s good fit. inr (inr (inr refl))
+  complete_failed _ (Some (OnBuild command)) ran = λ build script build_bytes bytes is_b is_s good fit. absurd ran.cause
 
   pub caused : (fault : Fault) (form : Option Form) → Ran form told words reading writing before now (Err fault) → CauseOf form told words reading writing fault
   caused fault None ran = let same : ◌≡◌ {A = Result (Unit {0}) Fault} (Err fault) (Err UsageFault) = ran.0 in cc
-  caused fault (Some World) ran = ran.cause
+  caused fault (Some (OnBuild command)) ran = ran.cause
+  caused fault (Some (Bench units)) ran = ran.cause
 
 cause_not_done : (told : Option Refusal) → status_of_cause told ≡ Done → ⊥
 cause_not_done None e = cc
@@ -238,3 +259,53 @@ pub line_written : {T E : Type 0} (r : Result T E) (old new : ℕ) (before now :
     Wrote before now line ⊎ (Rose old new × WrotePrefix before now line)
 line_written (Ok x) old new before now line all front cause = inl all
 line_written (Err e) old new before now line all front cause = inr (cause.failed, front)
+
+cause_not_write : (told : Option Refusal) → status_of_cause told ≡ WriteFault → ⊥
+cause_not_write None e = cc
+cause_not_write (Some r) e = elim (cases_Bool (is_block r)) [
+  | inl h ↦ (let clash : BadBlock ≡ WriteFault = rw h at e in absurd (cc))
+  | inr h ↦ (let clash : BadBuild ≡ WriteFault = rw h at e in absurd (cc))
+]
+
+script_not_write : (refusal : ScriptRefusal) → status_of_script refusal ≡ WriteFault → ⊥
+script_not_write (Line line kind) e = cc
+script_not_write NoMemoryOfScript e = cc
+
+graph_not_write : (refusal : GraphRefusal) → status_of_graph refusal ≡ WriteFault → ⊥
+graph_not_write NoMemoryOfGraph e = cc
+graph_not_write _ e = cc
+
+-- a write's fault alone answers WriteFault
+write_alone : (fault : Fault) (P : Fault → Type 0) → P Write → status_of fault ≡ WriteFault → P fault
+write_alone Write P p e = p
+write_alone (BuildFault refusal) P p e = absurd (cause_not_write (plain_refusal refusal) e)
+write_alone (ScriptFault refusal) P p e = absurd (script_not_write refusal e)
+write_alone (Graph refusal) P p e = absurd (graph_not_write refusal e)
+write_alone _ P p e = absurd (cc)
+
+-- where all else failed, nothing was written
+untouched_then : (fault : Fault) (P : Type 0) → (status_of fault ≡ WriteFault → ⊥) → ButForWrites (Err fault) P → P
+untouched_then Write P h n = absurd (h refl)
+untouched_then _ P h n = n
+
+module _ (told : Told) (words : List (List ℕ)) (reading writing : Type 0) (before now : Option (List ℕ)) where
+  pub done_failed : (fault : Fault) (form : Option Form) → DoneClause form told words before now (status_of fault)
+  done_failed fault None = never_done fault
+  done_failed fault (Some (OnBuild command)) = λ e. absurd (never_done fault e)
+  done_failed fault (Some (Bench units)) = λ e. absurd (never_done fault e)
+
+  pub front_failed : (fault : Fault) (form : Option Form) → Ran form told words reading writing before now (Err fault) → FrontClause form told words before now (status_of fault)
+  front_failed fault None ran = usage_alone told words reading writing before now fault WriteFault (λ e. cc) ran.0
+  front_failed fault (Some (OnBuild command)) ran = λ e. began fault ran.front e
+    where
+      began : (f : Fault) → OnWriteFault (Err f) (Did (told (word words 1)) (told (word words 2)) (BeganCommand command before now)) → status_of f ≡ WriteFault → Did (told (word words 1)) (told (word words 2)) (BeganCommand command before now)
+      began f front e = write_alone f (λ x. OnWriteFault (Err x) (Did (told (word words 1)) (told (word words 2)) (BeganCommand command before now)) → Did (told (word words 1)) (told (word words 2)) (BeganCommand command before now)) (λ part. part) e front
+  front_failed fault (Some (Bench units)) ran = λ e. began fault ran.front e
+    where
+      began : (f : Fault) → OnWriteFault (Err f) (WroteSummaryPrefix units before now) → status_of f ≡ WriteFault → WroteSummaryPrefix units before now
+      began f front e = write_alone f (λ x. OnWriteFault (Err x) (WroteSummaryPrefix units before now) → WroteSummaryPrefix units before now) (λ part. part) e front
+
+  pub nothing_failed : (fault : Fault) (form : Option Form) → Ran form told words reading writing before now (Err fault) → (status_of fault ≡ WriteFault → ⊥) → now ≡ before
+  nothing_failed fault None ran h = ran.1
+  nothing_failed fault (Some (OnBuild command)) ran h = untouched_then fault (now ≡ before) h ran.nothing
+  nothing_failed fault (Some (Bench units)) ran h = untouched_then fault (now ≡ before) h ran.nothing

@@ -1,5 +1,3 @@
-pub mod ScriptLaws
 pub mod Tellings
-pub mod Going
-mod TextRows
 pub mod Endings
+pub mod Compiling

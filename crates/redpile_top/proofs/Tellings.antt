@@ -1,5 +1,5 @@
 -- What a refusal tells of the files that were read.
-use Rattle.std.proofs.Common.{◌≡◌, ◌≤◌, ◌<◌, List, ℕ, Bool, true, length, Option, Some, None, Result, Err, IfErr, sym, ap, subst, ◌∙◌}
+use Rattle.std.proofs.Common.{◌≡◌, ◌≤◌, ◌<◌, List, ℕ, Bool, true, length, Option, Some, None, Result, Err, sym, ap, subst, ◌∙◌}
 use Rattle.build.specs.Plan.{Plan}
 use Rattle.schematic.specs.File.{Refusal, file, IsFirstRefusal, Refuses as RefusesBuild}
 use Rattle.script.specs.declared.ScriptRefusal.{ScriptRefusal}
@@ -7,9 +7,6 @@ use Rattle.script.specs.declared.ScriptRefusal.TheVariants.{Line, NoMemory as No
 use Rattle.script.specs.Clickable.{takes_click, is_wire_at}
 use Rattle.script.specs.Scripts.{script_of, Refuses}
 use Rattle.redpile_top.specs.Clauses.{IsBuild, OnTold, BuildCause, ScriptCause}
-
-pub err_told : {T E : Type 0} (r : Result T E) (stop : E) (P : E → Type 0) → r ≡ Err stop → P stop → IfErr r P
-err_told r stop P e p = subst (λ (x : Result _ _). IfErr x P) (sym e) p
 
 pub build_told : (b : Option (List ℕ)) (read : List ℕ) (told : Option Refusal) → ((bytes : List ℕ) → b ≡ Some bytes → read ≡ bytes) → ((bytes : List ℕ) → b ≡ Some bytes → length bytes ≤ 67108864) →
     RefusesBuild read told → BuildCause b told

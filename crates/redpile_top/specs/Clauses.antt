@@ -1,6 +1,5 @@
 -- The clauses of the top call: what each answer says of the words, the files and the sinks.
-use Rattle.std.specs.Prelude.{◌≡◌, ◌⊎◌, ℕ, ◌<◌, ◌≤◌, Bool, true, false, if◌then◌else◌, List, [], ◌∷◌, length, get_or, Option, Some, None, Result, Ok, Err, OnOk, IfErr, codes}
-use Rattle.std.specs.Str.{bytes_eq}
+use Rattle.std.specs.Prelude.{◌≡◌, ◌⊎◌, ℕ, ◌<◌, ◌≤◌, Bool, true, false, if◌then◌else◌, List, [], ◌∷◌, length, Option, Some, None, Result, Ok, Err, OnOk, IfErr}
 use Rattle.rp_io.specs.Causes.{Wrote, WrotePrefix}
 use Rattle.build.specs.Plan.{Plan}
 use Rattle.schematic.specs.File.{Refusal, unknown_block, file, plain_refusal, IsFirstRefusal}
@@ -15,27 +14,23 @@ use Rattle.report.specs.declared.Fault.TheVariants.{Usage as UsageFault, Read, W
 use Rattle.report.specs.declared.GraphRefusal.{GraphRefusal}
 use Rattle.report.specs.declared.GraphRefusal.TheVariants.{NoMemory as NoMemoryOfGraph}
 use Rattle.report.specs.FaultLine.{fault_line}
+use Rattle.redpile_top.specs.declared.form.Command.{Command}
+use Rattle.redpile_top.specs.declared.form.Command.TheVariants.{World, Compile, Run}
 use Rattle.redpile_top.specs.declared.form.Form.{Form}
-use Rattle.redpile_top.specs.declared.form.Form.TheVariants.{World}
+use Rattle.redpile_top.specs.declared.form.Form.TheVariants.{OnBuild, Bench}
 use Rattle.redpile_top.specs.declared.status.Status.{Status}
 use Rattle.redpile_top.specs.declared.status.Status.TheVariants.{Done, Usage, ReadFault, WriteFault, BadBuild, BadBlock, BadScript, BadOrder, NoMemory, BadGraph}
-use Rattle.redpile_top.specs.Played.{WroteRun, WroteRunPrefix}
+use Rattle.redpile_top.specs.Forms.{word}
+use Rattle.redpile_top.specs.Written.{keep_of, WroteGraph, WroteGraphPrefix, WroteCompiledRun, WroteCompiledRunPrefix, WroteSummary, WroteSummaryPrefix}
+use Rattle.player.specs.Played.{WroteRun, WroteRunPrefix}
 
 -- ---- words
-
--- the form that the words have, if they have one
-abbrev pub form_of : List (List ℕ) → Option Form
-form_of (command ∷ build ∷ script ∷ []) = if bytes_eq command (codes "world") then Some World else None
-form_of words = None
-
--- the word in a place, counted from 0
-abbrev pub word : List (List ℕ) → ℕ → List ℕ
-word words i = get_or words i []
 
 -- The words of this form name this file.
 abbrev pub IsFileWord : Option Form → List (List ℕ) → List ℕ → Type 0
 IsFileWord None words name = ⊥
-IsFileWord (Some World) words name = (name ≡ word words 1) ⊎ (name ≡ word words 2)
+IsFileWord (Some (OnBuild command)) words name = (name ≡ word words 1) ⊎ (name ≡ word words 2)
+IsFileWord (Some (Bench units)) words name = ⊥
 
 -- ---- files
 
@@ -145,18 +140,38 @@ pub record Ends (b s : Option (List ℕ)) (reading writing untouched : Type 0) (
   pub cause : IfErr ending (Cause b s reading writing)
   pub nothing : ButForWrites ending untouched
 
--- what a command wrote, by its form: `world` a run of the uncompiled world
-abbrev pub DidForm : Form → (before now : Option (List ℕ)) → Plan → Meaning → Type 0
-DidForm World before now build script = WroteRun build script before now
+-- what a command wrote: `world` a run of the uncompiled world, `compile` a compiled graph, and `run` a run of one
+abbrev pub DidCommand : Command → (before now : Option (List ℕ)) → Plan → Meaning → Type 0
+DidCommand World before now build script = WroteRun build script before now
+DidCommand Compile before now build script = WroteGraph build script before now
+DidCommand (Run with_graph keep) before now build script = WroteCompiledRun with_graph (keep_of keep) build script before now
 
-abbrev pub BeganForm : Form → (before now : Option (List ℕ)) → Plan → Meaning → Type 0
-BeganForm World before now build script = WroteRunPrefix build script before now
+-- and what it began to write
+abbrev pub BeganCommand : Command → (before now : Option (List ℕ)) → Plan → Meaning → Type 0
+BeganCommand World before now build script = WroteRunPrefix build script before now
+BeganCommand Compile before now build script = WroteGraphPrefix build script before now
+BeganCommand (Run with_graph keep) before now build script = WroteCompiledRunPrefix with_graph (keep_of keep) build script before now
+
+-- When a fault may come where no file is read.
+abbrev pub CauseUnread : (writing : Type 0) → Fault → Type 0
+CauseUnread writing Write = writing
+CauseUnread writing Memory = Unit {0}
+CauseUnread writing _ = ⊥
+
+-- How a command that reads no file ends.
+pub record EndsUnread (writing untouched did began : Type 0) (ending : Ending) : Type 0 where
+  pub done : OnOk ending did
+  pub front : OnWriteFault ending began
+  pub cause : IfErr ending (CauseUnread writing)
+  pub nothing : ButForWrites ending untouched
 
 -- How a call ends, by the form of its words.
 abbrev pub Ran : Option Form → Told → List (List ℕ) → (reading writing : Type 0) (before now : Option (List ℕ)) → Ending → Type 0
 Ran None told words reading writing before now ending = (ending ≡ Err UsageFault) × (now ≡ before)
-Ran (Some form) told words reading writing before now ending =
-    Ends (told (word words 1)) (told (word words 2)) reading writing (now ≡ before) (DidForm form before now) (BeganForm form before now) ending
+Ran (Some (OnBuild command)) told words reading writing before now ending =
+    Ends (told (word words 1)) (told (word words 2)) reading writing (now ≡ before) (DidCommand command before now) (BeganCommand command before now) ending
+Ran (Some (Bench units)) told words reading writing before now ending =
+    EndsUnread writing (now ≡ before) (WroteSummary units before now) (WroteSummaryPrefix units before now) ending
 
 -- ---- statuses and lines
 
@@ -205,12 +220,14 @@ pub record Exactly (P : Type 0) (answer status : Status) : Type 0 where
 -- BadBuild comes exactly where the build's file is bad.
 abbrev pub BuildClause : Option Form → Told → List (List ℕ) → Status → Type 0
 BuildClause None told words status = status ≡ BadBuild → ⊥
-BuildClause (Some World) told words status = OnTold (told (word words 1)) (λ bytes. Exactly (IsBadBuild bytes) BadBuild status)
+BuildClause (Some (Bench units)) told words status = status ≡ BadBuild → ⊥
+BuildClause (Some (OnBuild command)) told words status = OnTold (told (word words 1)) (λ bytes. Exactly (IsBadBuild bytes) BadBuild status)
 
 -- BadBlock comes exactly where the first cause of the build's file is a block.
 abbrev pub BlockClause : Option Form → Told → List (List ℕ) → Status → Type 0
 BlockClause None told words status = status ≡ BadBlock → ⊥
-BlockClause (Some World) told words status = OnTold (told (word words 1)) (λ bytes. Exactly (IsBadBlock bytes) BadBlock status)
+BlockClause (Some (Bench units)) told words status = status ≡ BadBlock → ⊥
+BlockClause (Some (OnBuild command)) told words status = OnTold (told (word words 1)) (λ bytes. Exactly (IsBadBlock bytes) BadBlock status)
 
 -- the build is accepted, and the script's file is bad for it
 abbrev pub IsBadScriptFor : List ℕ → List ℕ → Type 0
@@ -219,23 +236,27 @@ IsBadScriptFor build_bytes bytes = (build : Plan) × (IsBuild build build_bytes 
 -- BadScript comes exactly where the script's file is bad for an accepted build.
 abbrev pub ScriptClause : Option Form → Told → List (List ℕ) → Status → Type 0
 ScriptClause None told words status = status ≡ BadScript → ⊥
-ScriptClause (Some World) told words status =
+ScriptClause (Some (Bench units)) told words status = status ≡ BadScript → ⊥
+ScriptClause (Some (OnBuild command)) told words status =
     OnTold (told (word words 1)) (λ build_bytes. OnTold (told (word words 2)) (λ bytes. Exactly (IsBadScriptFor build_bytes bytes) BadScript status))
 
 -- Done says that the whole text of the form was written.
 abbrev pub DoneClause : Option Form → Told → List (List ℕ) → (before now : Option (List ℕ)) → Status → Type 0
 DoneClause None told words before now status = status ≡ Done → ⊥
-DoneClause (Some form) told words before now status = status ≡ Done → Did (told (word words 1)) (told (word words 2)) (DidForm form before now)
+DoneClause (Some (OnBuild command)) told words before now status = status ≡ Done → Did (told (word words 1)) (told (word words 2)) (DidCommand command before now)
+DoneClause (Some (Bench units)) told words before now status = status ≡ Done → WroteSummary units before now
 
 -- WriteFault says that a prefix of such a text was written.
 abbrev pub FrontClause : Option Form → Told → List (List ℕ) → (before now : Option (List ℕ)) → Status → Type 0
 FrontClause None told words before now status = status ≡ WriteFault → ⊥
-FrontClause (Some form) told words before now status = status ≡ WriteFault → Did (told (word words 1)) (told (word words 2)) (BeganForm form before now)
+FrontClause (Some (OnBuild command)) told words before now status = status ≡ WriteFault → Did (told (word words 1)) (told (word words 2)) (BeganCommand command before now)
+FrontClause (Some (Bench units)) told words before now status = status ≡ WriteFault → WroteSummaryPrefix units before now
 
--- An accepted build and script give Done, but for a fault that was counted and for want of memory.
+-- An accepted build and script, where they are read, give Done, but for a fault that was counted and for want of memory.
 abbrev pub CompleteClause : Option Form → Told → List (List ℕ) → Status → Type 0
 CompleteClause None told words status = Unit {0}
-CompleteClause (Some World) told words status = (build : Plan) (script : Meaning) (build_bytes bytes : List ℕ) → told (word words 1) ≡ Some build_bytes → told (word words 2) ≡ Some bytes → IsBuild build build_bytes → IsScript build script bytes
+CompleteClause (Some (Bench units)) told words status = (status ≡ Done) ⊎ ((status ≡ WriteFault) ⊎ (status ≡ NoMemory))
+CompleteClause (Some (OnBuild command)) told words status = (build : Plan) (script : Meaning) (build_bytes bytes : List ℕ) → told (word words 1) ≡ Some build_bytes → told (word words 2) ≡ Some bytes → IsBuild build build_bytes → IsScript build script bytes
     → (status ≡ Done) ⊎ ((status ≡ ReadFault) ⊎ ((status ≡ WriteFault) ⊎ (status ≡ NoMemory)))
 
 -- The line of a fault that has its cause was written, or, only where a count rose, a prefix of it.
@@ -248,7 +269,8 @@ pub record LineOf (cause : Fault → Type 0) (rose : Type 0) (before now : Optio
 -- When a fault may come, by the form.
 abbrev pub CauseOf : Option Form → Told → List (List ℕ) → (reading writing : Type 0) → Fault → Type 0
 CauseOf None told words reading writing fault = fault ≡ UsageFault
-CauseOf (Some World) told words reading writing fault = Cause (told (word words 1)) (told (word words 2)) reading writing fault
+CauseOf (Some (OnBuild command)) told words reading writing fault = Cause (told (word words 1)) (told (word words 2)) reading writing fault
+CauseOf (Some (Bench units)) told words reading writing fault = CauseUnread writing fault
 
 -- Each status but Done writes one line to `err`, and Done writes nothing there.
 pub record LineClause (cause : Fault → Type 0) (rose : Type 0) (before now : Option (List ℕ)) (status : Status) : Type 0 where

@@ -1,4 +1,10 @@
-pub mod Moments
-pub mod Played
+pub use Rattle.compiler.specs.Compiled
+pub use Rattle.generator.specs.Made
+pub use Rattle.graph.specs.GraphText
+pub use Rattle.player.specs.Moments
+pub use Rattle.player.specs.Played
+pub use Rattle.report.specs.BenchText
+pub mod Forms
+pub mod Written
 pub mod Clauses
 pub mod Statuses

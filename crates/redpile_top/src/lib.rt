@@ -1,8 +1,8 @@
 //! The whole program over its words, its files and its two sinks.
 #![tactic(auto)]
 
+mod commands;
 mod form;
-mod play;
 #[cfg(test)]
 mod row_tests;
 mod status;
@@ -10,5 +10,7 @@ mod status;
 mod tests;
 mod top;
 
+pub use compiler::{Keep, compile_build, raw_graph};
+pub use player::{PlayRefusal, play};
 pub use status::Status;
 pub use top::redpile;

@@ -1,18 +1,20 @@
 //! The top call.
 
-ghost use Rattle.std.specs.Prelude.{◌≡◌, ◌≢◌, ◌↔◌, ◌≤◌, ◌++◌, [], List, ℕ, map, None, IfOk, IfErr, IfSome, IsNone, OnOk, OnErr, MatchOption, string_bytes};
+ghost use Rattle.std.specs.Prelude.{◌≡◌, ◌≢◌, ◌↔◌, ◌≤◌, ◌++◌, [], List, ℕ, map, Some, None, IfOk, IfErr, IfSome, IsNone, OnOk, OnErr, MatchOption, string_bytes};
 ghost use Rattle.rp_io.specs.Causes.{Rose, HasCause, Wrote, WrotePrefix};
 ghost use Rattle.report.specs.FaultLine.{fault_line, block_line_begin, block_name, newline};
 ghost use Rattle.report.specs.RoomyText.{empty_text};
 ghost use Rattle.script.specs.Clickable.{takes_click, is_wire_at};
 ghost use Rattle.script.specs.Fit.{IsFit};
-ghost use Rattle.redpile_top.specs.Played.{WroteRun, WroteRunPrefix};
-ghost use Rattle.redpile_top.specs.Clauses.{Accepted, Cause, Ends, Ran, form_of, word, IsConstant, IsConstantFault, AskedClause, BuildClause, BlockClause, ScriptClause, DoneClause, FrontClause, CompleteClause, LineClause, CauseOf};
+ghost use Rattle.redpile_top.specs.Forms.{form_of, word};
+ghost use Rattle.redpile_top.specs.Written.{WroteSummary, WroteSummaryPrefix};
+ghost use Rattle.redpile_top.specs.Clauses.{Accepted, Cause, Ends, EndsUnread, DidCommand, BeganCommand, Ran, IsConstant, IsConstantFault, AskedClause, BuildClause, BlockClause, ScriptClause, DoneClause, FrontClause, CompleteClause, LineClause, CauseOf};
 
-use crate::form::{Form, form_of, word};
-use crate::play::{PlayRefusal, play_world};
+use crate::commands::{bench, perform};
+use crate::form::{Command, Form, form_of, word};
 use crate::status::{Status, status_of};
 use build::Build;
+use player::PlayRefusal;
 use report::{Fault, LineBuf, push_fault};
 use rp_io::{Inputs, ReadRefusal, Sink, WriteFault, put_all, read_whole};
 use schematic::{BuildRefusal, read_build};
@@ -64,9 +66,10 @@ fn accepted<I: Inputs>(
     }
 }
 
-/// The command `world`.
-fn world<I: Inputs, O: Sink>(
+/// A command over a build and a script.
+fn on_build<I: Inputs, O: Sink>(
     alloc: Global,
+    command: Command,
     inputs: &mut I,
     build: &str,
     script: &str,
@@ -75,16 +78,51 @@ fn world<I: Inputs, O: Sink>(
     ensures asked { (name : List ℕ) → name ≢ build.now → name ≢ script.now → I.asked inputs.new name ≡ I.asked inputs.old name }
     ensures ends { Ends (I.file inputs.old build.now) (I.file inputs.old script.now) (Rose (I.faults inputs.old) (I.faults inputs.new))
         (Rose (O.faults out.old) (O.faults out.new)) (O.written out.new ≡ O.written out.old)
-        (λ build script. WroteRun build script (O.written out.old) (O.written out.new)) (λ build script. WroteRunPrefix build script (O.written out.old) (O.written out.new)) result }
+        (DidCommand command (O.written out.old) (O.written out.new)) (BeganCommand command (O.written out.old) (O.written out.new)) result }
 {
     let (build, script) = match accepted(alloc, inputs, build, script) {
         Ok(found) => found,
         Err(fault) => return Err(fault),
     };
-    match play_world(alloc, &build, &script, out) {
+    match perform(alloc, command, &build, &script, out) {
         Ok(()) => Ok(()),
         Err(PlayRefusal::WriteFault) => Err(Fault::Write),
         Err(PlayRefusal::NoMemory) => Err(Fault::Memory),
+    }
+}
+
+/// The command `bench`.
+fn on_units<O: Sink>(alloc: Global, units: u32, out: &mut O) -> Result<(), Fault>
+    requires some { 1 ≤ units }
+    requires few { units ≤ 4000 }
+    ensures { EndsUnread (Rose (O.faults out.old) (O.faults out.new)) (O.written out.new ≡ O.written out.old)
+        (WroteSummary units (O.written out.old) (O.written out.new)) (WroteSummaryPrefix units (O.written out.old) (O.written out.new)) result }
+{
+    match bench(alloc, units, out) {
+        Ok(()) => Ok(()),
+        Err(PlayRefusal::WriteFault) => Err(Fault::Write),
+        Err(PlayRefusal::NoMemory) => Err(Fault::Memory),
+    }
+}
+
+/// What words of this form ask for.
+fn run_form<I: Inputs, O: Sink>(
+    alloc: Global,
+    form: Form,
+    words: &[String],
+    inputs: &mut I,
+    out: &mut O,
+) -> Result<(), Fault>
+    requires { form_of (map string_bytes words.now) ≡ Some form }
+    ensures asked { let names = map string_bytes words.now in AskedClause (Some form) names (I.asked inputs.old) (I.asked inputs.new) }
+    ensures ran { let names = map string_bytes words.now in Ran (Some form) (I.file inputs.old) names
+        (Rose (I.faults inputs.old) (I.faults inputs.new)) (Rose (O.faults out.old) (O.faults out.new)) (O.written out.old) (O.written out.new) result }
+{
+    match form {
+        Form::OnBuild { command } => {
+            on_build(alloc, command, inputs, word(words, 1), word(words, 2), out)
+        }
+        Form::Bench { units } => on_units(alloc, units, out),
     }
 }
 
@@ -103,11 +141,8 @@ fn run<I: Inputs, O: Sink>(
 {
     match form_of(words) {
         None => (Err(Fault::Usage), None),
-        Some(Form::World) => match LineBuf::new(alloc, FAULT_ROOM) {
-            Ok(line) => {
-                let ending = world(alloc, inputs, word(words, 1), word(words, 2), out);
-                (ending, Some(line))
-            }
+        Some(form) => match LineBuf::new(alloc, FAULT_ROOM) {
+            Ok(line) => (run_form(alloc, form, words, inputs, out), Some(line)),
             Err(_) => (Err(Fault::Memory), None),
         },
     }
@@ -187,7 +222,10 @@ fn put_line<E: Sink>(err: &mut E, room: Option<LineBuf>, fault: &Fault) -> Resul
 /// sinks: standard output and standard error.
 ///
 /// `world BUILD SCRIPT` reads a build and a script and writes what the build shows: the header, a
-/// line for each view, and the trailer. Any other words are Usage.
+/// line for each view, and the trailer. `compile BUILD SCRIPT` writes the text of the compiled
+/// graph. `run BUILD SCRIPT [--graph] [--keep]` plays that graph and writes what it shows, with its
+/// counts, behind its text with `--graph`; with `--keep` nothing is pruned. `bench N` does so for a
+/// build of N units that it makes, 1 to 4,000, and writes a summary. Any other words are Usage.
 pub fn redpile<I: Inputs, O: Sink, E: Sink>(
     alloc: Global,
     words: &[String],

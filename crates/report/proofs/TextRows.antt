@@ -11,6 +11,7 @@ use Rattle.report.specs.PlaceText.{place_text}
 use Rattle.report.specs.Header.{count_line, output_line, header}
 use Rattle.report.specs.ViewLine.{value_text, view_line}
 use Rattle.report.specs.Trailers.{counts_line, run_trailer}
+use Rattle.report.specs.BenchText.{bench_line, lamps_line, bench_text}
 use Rattle.report.specs.FireLine.{fire_line}
 use Rattle.report.specs.FaultLine.{fault_line}
 
@@ -28,6 +29,10 @@ view_line-two_values = refl
 run_trailer-counts : run_trailer (record { nodes = 2; links = 1; events = 3 }) ≡ codes "nodes 2 links 1 events 3\nend\n"
 unfolding run_trailer counts_line digits
 run_trailer-counts = refl
+
+bench_text-two_outputs : bench_text 40 two_outputs (1 ∷ 15 ∷ []) (record { nodes = 2; links = 1; events = 3 }) ≡ codes "bench 40\non 1 of 1\nnodes 2 links 1 events 3\nend\n"
+unfolding bench_text bench_line lamps_line run_trailer counts_line digits
+bench_text-two_outputs = refl
 
 fire_line-place : fire_line (record { x = pos 1; y = negsuc 1; z = pos 30 }) ≡ codes "fire 1 -2 30\n"
 unfolding fire_line place_text digits

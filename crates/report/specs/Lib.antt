@@ -3,5 +3,6 @@ pub mod PlaceText
 pub mod Header
 pub mod ViewLine
 pub mod Trailers
+pub mod BenchText
 pub mod FireLine
 pub mod FaultLine

@@ -14,6 +14,7 @@ mod faults;
 mod fires;
 mod header;
 mod line_buf;
+mod summary;
 mod trailers;
 mod views;
 
@@ -21,6 +22,7 @@ pub use faults::push_fault;
 pub use fires::push_fire;
 pub use header::push_header;
 pub use line_buf::LineBuf;
+pub use summary::push_summary;
 pub use trailers::push_trailer;
 pub use views::push_view;
 

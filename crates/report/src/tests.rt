@@ -108,6 +108,49 @@ fn trailers(rt: HostRuntime) -> Result<(), Fail> {
 }
 
 #[test]
+fn summaries(rt: HostRuntime) -> Result<(), Fail> {
+    let counts = Counts {
+        nodes: 12,
+        links: 9,
+        events: 0,
+    };
+    let lamp = OutPlace {
+        pos: Pos { x: 0, y: 0, z: 0 },
+        kind: OutKind::Lamp,
+    };
+    let others = [OutKind::Trapdoor, OutKind::Note, OutKind::Wire].map(|kind| OutPlace {
+        kind,
+        ..lamp
+    });
+    let rows: [(u32, &[OutPlace], &[u8], &[u8]); 3] = [
+        (
+            1,
+            &[lamp, lamp, lamp, lamp],
+            &[0, 1, 1, 1],
+            b"bench 1\non 3 of 4\nnodes 12 links 9 events 0\nend\n",
+        ),
+        (
+            4000,
+            &others,
+            &[1, 1, 15],
+            b"bench 4000\non 0 of 0\nnodes 12 links 9 events 0\nend\n",
+        ),
+        (
+            u32::MAX,
+            &[others[0], lamp, others[2], lamp],
+            &[1, 0, 15, 1],
+            b"bench 4294967295\non 1 of 2\nnodes 12 links 9 events 0\nend\n",
+        ),
+    ];
+    for (number, outputs, values, want) in rows {
+        let mut line = LineBuf::new(rt.alloc(), 192)?;
+        push_summary(&mut line, number, outputs, values, counts);
+        assert_eq!(rt; line.bytes(), want);
+    }
+    Ok(())
+}
+
+#[test]
 fn fire_lines(rt: HostRuntime) -> Result<(), Fail> {
     let rows: [(i32, i32, i32, &[u8]); 3] = [
         (0, 1, 2, b"fire 0 1 2\n"),

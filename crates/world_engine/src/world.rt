@@ -39,7 +39,7 @@ impl World {
     ghost use Rattle.world_engine.specs.Running.{state_in};
 
     /// The build as it starts: what it stores, after all have attended once. It takes the memory
-    /// of the whole run.
+    /// of the whole run, a copy of the build with it. A mark where no wire stands counts for nothing.
     pub fn start(alloc: Global, build: &Build, marks: &Marks) -> Result<World, NoMemory>
         ensures plan { IfOk result (λ world. world.plan ≡ build.now) }
         ensures marks { IfOk result (λ world. world.marks ≡ marks.now) }
@@ -59,7 +59,8 @@ impl World {
         })
     }
 
-    /// One click. It is refused where no component of the place takes it.
+    /// One click. It is refused where no component of the place takes it, and a weighted plate
+    /// takes weights of 1 to 15 alone.
     pub fn click(&mut self, pos: Pos, click: Click) -> Result<(), ClickRefusal>
         ensures taken { OnOk result (Clicks (world_circuit self.old.plan self.old.marks) pos click (state_in self.old) (state_in self.new)) }
         ensures refused { OnErr result (Takes (world_circuit self.old.plan self.old.marks) pos click → ⊥) }
@@ -104,7 +105,7 @@ impl World {
         self.places.len()
     }
 
-    /// What the outputs show, in order of places.
+    /// What the outputs show, in order of places: 0 or 1, and of a wire its power.
     pub fn view(&self, into: &mut [u8])
         requires { length into.old ≡ length (world_circuit self.now.plan self.now.marks).shown }
         ensures values { into.new ≡ view (world_circuit self.now.plan self.now.marks) (state_in self.now) }

@@ -1,4 +1,5 @@
-use Rattle.std.proofs.Common.{◌≡◌, ◌<◌, ◌+◌, ◌∷◌, ◌++◌, [], ℕ, ◌∙◌, ap, sym, subst, arith, refl, Option, Some, None}
+use Rattle.std.proofs.Common.{◌≡◌, ◌<◌, ◌+◌, ◌∷◌, ◌++◌, [], ℕ, ◌∙◌, ap, sym, subst, arith, refl, length, Option, Some, None}
+use Rattle.std.proofs.lemmas.List.{length-append}
 use Rattle.circuit.specs.Circuit.{State, IsDue}
 use Rattle.graph.specs.Graph.{Nodes}
 use Rattle.graph.specs.GraphCircuit.{graph_circuit}
@@ -46,6 +47,7 @@ loop-key-preserved g c =
           (c.in-Some.ensures.read ∙ ap (λ (n : Nodes). c.loop-key.steps + reads_of n c.in-Some.key) inv.nodes);
       spare = omega (arith, lowers, inv.spare, c.push.ensures.spare);
       room = c.push.ensures.room ∙ inv.room;
+      few = omega (arith, lowers, inv.few, ap length c.push.ensures.keys, length-append c.loop-key.fired.keys (c.new.result ∷ []));
     }
 
 pub returns-clause-fires : goal.returns-clause-fires

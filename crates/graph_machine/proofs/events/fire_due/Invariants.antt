@@ -1,4 +1,4 @@
-use Rattle.std.proofs.Common.{◌≡◌, ◌≤◌}
+use Rattle.std.proofs.Common.{◌≡◌, ◌≤◌, ◌+◌, length}
 use Rattle.graph_machine.specs.Playing.{held_state, IsPlaying, AllStill, due_count}
 use Rattle.graph_machine.proofs.TickSteps.{FiredSoFar}
 use Rattle.graph_machine.proofs.events.fire_due.Given as goal
@@ -12,6 +12,7 @@ invariant-loop-key g l = record {
   fired : FiredSoFar l.initial.net.nodes (held_state l.initial.cells) (held_state l.cells) l.initial.fired.keys l.fired.keys l.initial.steps l.steps;
   spare : due_count l.initial.net.nodes (held_state l.cells) ≤ l.fired.spare;
   room : l.fired.room ≡ l.initial.fired.room;
+  few : length l.fired.keys + due_count l.initial.net.nodes (held_state l.cells) ≤ length l.initial.fired.keys + due_count l.initial.net.nodes (held_state l.initial.cells);
 }
 
 abbrev pub decreases-loop-key : goal.decreases-loop-key

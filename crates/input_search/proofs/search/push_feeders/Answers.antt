@@ -1,7 +1,4 @@
-use Rattle.std.proofs.Common.{ap, sym, ◌∙◌, arith}
-use Rattle.wire_shape.specs.Feeders.{feeders}
-use Rattle.input_search.specs.CellLists.{cells_of}
-use Rattle.input_search.proofs.Joined.{cells_more, cells_all}
+use Rattle.input_search.proofs.Joined.{cells_more}
 use Rattle.input_search.proofs.search.push_feeders.Goals as goal
 
 pub loop-index-preserved : goal.loop-index-preserved

@@ -1,6 +1,6 @@
 use Rattle.report.specs.FaultLine.{block_line_begin, newline}
 use Rattle.rp_io.proofs.Written.{wrote_both, prefix_more, prefix_after}
-use Rattle.redpile_top.proofs.Going.{on_err_holds, on_ok_then, on_err_then}
+use Rattle.player.proofs.Going.{on_err_holds, on_ok_then, on_err_then}
 use Rattle.redpile_top.proofs.top.put_block.Goals as goal
 
 pub returns-in_err-put_all-clause-front : goal.returns-in_err-put_all-clause-front

@@ -1,7 +1,8 @@
 use Rattle.std.proofs.Common.{◌∙◌, map, sym, subst, string_bytes}
 use Rattle.redpile_top.specs.declared.status.Status.{Status}
-use Rattle.redpile_top.specs.Clauses.{Ran, form_of, BuildClause, BlockClause, ScriptClause, CompleteClause}
-use Rattle.redpile_top.proofs.Endings.{build_done, block_done, script_done, build_failed, block_failed, script_failed, complete_failed, caused, never_done, line_written}
+use Rattle.redpile_top.specs.Forms.{form_of}
+use Rattle.redpile_top.specs.Clauses.{Ran, BuildClause, BlockClause, ScriptClause, DoneClause, FrontClause, CompleteClause}
+use Rattle.redpile_top.proofs.Endings.{build_done, block_done, script_done, build_failed, block_failed, script_failed, complete_failed, caused, done_failed, front_failed, nothing_failed, never_done, line_written}
 use Rattle.redpile_top.proofs.top.redpile.Goals as goal
 
 pub returns-in-Ok-clause-build : goal.returns-in-Ok-clause-build
@@ -42,6 +43,26 @@ returns-in-Err-clause-script g c =
     let told = g.I.Inputs.file c.args.inputs.now in
     subst (λ (s : Status). ScriptClause (form_of names) told names s) (sym c.status_of.ensures)
     (script_failed told names _ _ _ _ c.in-Err.fault (form_of names) (subst (Ran (form_of names) told names _ _ _ _) c.in-Err.is c.run-ending.ensures.ran))
+
+pub returns-in-Err-clause-done : goal.returns-in-Err-clause-done
+returns-in-Err-clause-done g c =
+    let names = map string_bytes c.args.words.now in
+    let told = g.I.Inputs.file c.args.inputs.now in
+    subst (λ (s : Status). DoneClause (form_of names) told names (g.O.Sink.written c.args.out.now) (g.O.Sink.written c.run-ending.new.out) s) (sym c.status_of.ensures)
+    (done_failed told names (Unit {0}) (Unit {0}) (g.O.Sink.written c.args.out.now) (g.O.Sink.written c.run-ending.new.out) c.in-Err.fault (form_of names))
+
+pub returns-in-Err-clause-front : goal.returns-in-Err-clause-front
+returns-in-Err-clause-front g c =
+    let names = map string_bytes c.args.words.now in
+    let told = g.I.Inputs.file c.args.inputs.now in
+    subst (λ (s : Status). FrontClause (form_of names) told names (g.O.Sink.written c.args.out.now) (g.O.Sink.written c.run-ending.new.out) s) (sym c.status_of.ensures)
+    (front_failed told names _ _ _ _ c.in-Err.fault (form_of names) (subst (Ran (form_of names) told names _ _ _ _) c.in-Err.is c.run-ending.ensures.ran))
+
+pub returns-in-Err-clause-nothing : goal.returns-in-Err-clause-nothing
+returns-in-Err-clause-nothing g c no_done no_write =
+    let names = map string_bytes c.args.words.now in
+    let told = g.I.Inputs.file c.args.inputs.now in
+    nothing_failed told names _ _ _ _ c.in-Err.fault (form_of names) (subst (Ran (form_of names) told names _ _ _ _) c.in-Err.is c.run-ending.ensures.ran) (λ e. no_write (c.status_of.ensures ∙ e))
 
 pub returns-in-Err-clause-complete : goal.returns-in-Err-clause-complete
 returns-in-Err-clause-complete g c =

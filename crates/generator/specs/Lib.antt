@@ -1,0 +1,2 @@
+pub mod UnitCells
+pub mod Made

@@ -1,0 +1,5 @@
+pub mod Going
+pub mod Scripts
+mod TextRows
+pub mod WorldRuns
+pub mod GraphRuns

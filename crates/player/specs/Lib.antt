@@ -1,0 +1,4 @@
+pub use Rattle.power_rules.specs.World
+pub mod Moments
+pub mod Cost
+pub mod Played
