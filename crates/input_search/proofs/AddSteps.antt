@@ -1,8 +1,8 @@
 -- Links that go into one node, one by one.
 use Rattle.std.proofs.Common.{◌≡◌, ℕ, zero, suc, ◌+◌, ◌<◌, List, [], ◌∷◌, ◌++◌, length, take, get_or, set, Option, Some, None, refl, sym, ◌∙◌, ap, inl, inr}
 use Rattle.std.specs.Prelude.{option_map, is_some}
-use Rattle.std.proofs.lemmas.Bool.{cases_eq, cases_lt, false≢true}
-use Rattle.std.proofs.lemmas.List.{get_or-set_same, get_or-set_other, set-get_or, get_or_past, take_more}
+use Rattle.std.proofs.lemmas.Bool.{cases_lt, false≢true}
+use Rattle.std.proofs.lemmas.List.{get_or-set_same, set-get_or, get_or_past, take_more}
 use Rattle.graph.specs.declared.Link.{Link}
 use Rattle.graph.specs.Graph.{Node, Nodes, node_at, Lives}
 use Rattle.graph.specs.Links.{in_groups}
@@ -13,19 +13,6 @@ pub lives_below : (g : Nodes) (key : ℕ) → Lives g key → key < length g
 lives_below g key h = elim (cases_lt key (length g)) [
   | inl below ↦ below
   | inr past ↦ absurd (false≢true (sym (ap is_some (get_or_past g key None past)) ∙ h))
-]
-
-pub mapped_lives : (f : Node → Node) (o : Option Node) → is_some (option_map f o) ≡ is_some o
-mapped_lives f None = refl
-mapped_lives f (Some n) = refl
-
--- a changed node lives on, and so do the others
-pub lives_on : (f : Node → Node) (g : Nodes) (to key : ℕ) → Lives g to → Lives g key → Lives (change f g to) key
-lives_on f g to key here there = elim (cases_eq key to) [
-  | inl same ↦
-      ap (λ (k : ℕ). is_some (get_or (set g to (option_map f (node_at g to))) k None)) same
-      ∙ ap is_some (get_or-set_same g to (option_map f (node_at g to)) None (lives_below g to here)) ∙ mapped_lives f (node_at g to) ∙ here
-  | inr apart ↦ ap is_some (get_or-set_other g to key (option_map f (node_at g to)) None apart) ∙ there
 ]
 
 set_twice : {X : Type 0} (xs : List X) (i : ℕ) (x y : X) → set (set xs i x) i y ≡ set xs i y

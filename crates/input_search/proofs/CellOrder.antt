@@ -1,6 +1,6 @@
 -- Cells in order, each once: a sorted list without repeats is the part of all cells that it has.
 use Rattle.std.proofs.Common.{◌≡◌, ◌≢◌, ℕ, zero, suc, ◌+◌, ◌<◌, ◌≤◌, Bool, true, false, Option, Some, None, List, [], ◌∷◌, refl, sym, ◌∙◌, ap, inl, inr, arith, eq-eqb, eqb-true}
-use Rattle.std.specs.Prelude.{filter, All, ◌&&◌, is_some}
+use Rattle.std.specs.Prelude.{All, ◌&&◌, is_some}
 use Rattle.std.specs.List.{range_with_len, dedup, AllByRecursion, cons_option}
 use Rattle.std.specs.List.Sorted.{IsStrictlySortedBy, IsPermutation, IsSorted}
 use Rattle.std.specs.Ordering.{nat_cmp}
@@ -16,10 +16,10 @@ use Rattle.std.proofs.lemmas.Map.Views.{any-filter_same, list_any-from_Contains,
 use Rattle.circuit.specs.declared.Pos.{Pos}
 use Rattle.build.specs.Place.{same_place}
 use Rattle.build.specs.SamePlace.{place_one, place_itself}
-use Rattle.build.specs.Plan.{Plan, volume, cell_of, place_of, places, found_cell}
+use Rattle.build.specs.Plan.{Plan, volume, cell_of, place_of, found_cell}
 use Rattle.build.specs.Places.{found-cell_of, found_inside, found-is_some, found_below, place_inside, cell-place, place-cell, inside}
 use Rattle.input_search.specs.Links.{among}
-use Rattle.input_search.specs.CellLists.{has_cell, kept_cells, cells_of, places_of, AreCells}
+use Rattle.input_search.specs.CellLists.{has_cell, kept_cells, cells_of, AreCells}
 
 less_is : (x y : ℕ) → nat_cmp x y ≡ Less → x < y
 less_is x y e = elim (cases_lt x y) [
@@ -87,7 +87,7 @@ unfolding IsStrictlySortedBy
 range_rises a zero = tt
 range_rises a (suc n) = (range_over a (a + 1) n (omega arith), range_rises (a + 1) n)
 
-range_has : (a n i : ℕ) → a ≤ i → i < a + n → has_cell (range_with_len a n) i ≡ true
+pub range_has : (a n i : ℕ) → a ≤ i → i < a + n → has_cell (range_with_len a n) i ≡ true
 range_has a zero i l h = absurd (omega arith)
 range_has a (suc n) i l h = elim (cases_eq i a) [
   | inl same ↦ rw (eq-eqb i a same) refl
@@ -102,7 +102,7 @@ kept_has n xs below i =
       | inr e ↦ rw e refl
     ]
 
-both : (x y : Bool) → (x ≡ true → y ≡ true) → (y ≡ true → x ≡ true) → x ≡ y
+pub both : (x y : Bool) → (x ≡ true → y ≡ true) → (y ≡ true → x ≡ true) → x ≡ y
 both true true f g = refl
 both false false f g = refl
 both true false f g = sym (f refl)
@@ -145,7 +145,7 @@ here_same b p here i found same =
     ap (λ (q : Pos). same_place q p) is ∙ place_itself p
 
 -- a cell is among the cells of places where its place is among the places
-cell_among : (b : Plan) (ps : List Pos) (i : ℕ) → i < volume b → has_cell (cells_of b ps) i ≡ among ps (place_of b i)
+pub cell_among : (b : Plan) (ps : List Pos) (i : ℕ) → i < volume b → has_cell (cells_of b ps) i ≡ among ps (place_of b i)
 cell_among b [] i h = refl
 cell_among b (p ∷ ps) i h = one (found_cell b p) refl (cell_among b ps i h)
   where
@@ -156,14 +156,6 @@ cell_among b (p ∷ ps) i h = one (found_cell b p) refl (cell_among b ps i h)
       | inr apart ↦ let other : i ≢ here = omega arith in rw (eqb-apart i here other, other_apart b p here i e apart) rest
     ]
 
-kept_places : (b : Plan) (ps : List Pos) (a n : ℕ) → a + n ≤ volume b
-    → places_of b (filter (has_cell (cells_of b ps)) (range_with_len a n)) ≡ filter (among ps) (places_of b (range_with_len a n))
-kept_places b ps a zero l = refl
-kept_places b ps a (suc n) l = elim (cases_Bool (has_cell (cells_of b ps) a)) [
-  | inl e ↦ rw (e, sym (cell_among b ps a (omega arith)) ∙ e) (ap (λ (qs : List Pos). place_of b a ∷ qs) (kept_places b ps (a + 1) n (omega arith)))
-  | inr e ↦ rw (e, sym (cell_among b ps a (omega arith)) ∙ e) (kept_places b ps (a + 1) n (omega arith))
-]
-
 -- the cells of places are cells
 pub cells_within : (b : Plan) (ps : List Pos) → AreCells b (cells_of b ps)
 cells_within b [] = All-nil (λ i. i < volume b)
@@ -172,7 +164,3 @@ cells_within b (p ∷ ps) = one (found_cell b p) refl (cells_within b ps)
     one : (found : Option ℕ) → found_cell b p ≡ found → AreCells b (cells_of b ps) → AreCells b (cons_option found (cells_of b ps))
     one None e rest = rest
     one (Some i) e rest = All-cons (λ i. i < volume b) i (cells_of b ps) (found_below b p i e) rest
-
--- the places of the part of all cells that places have are those places in order
-pub kept_in_order : (b : Plan) (ps : List Pos) → places_of b (kept_cells (volume b) (cells_of b ps)) ≡ filter (among ps) (places b)
-kept_in_order b ps = kept_places b ps 0 (volume b) (omega arith)

@@ -38,10 +38,10 @@ among-in (q ∷ ps) p h = elim (cases_Bool (same_place p q)) [
   | inr e ↦ inr (among-in ps p (rw e at h))
 ]
 
-or-left : (s t : Bool) → s ≡ true → (s || t) ≡ true
+pub or-left : (s t : Bool) → s ≡ true → (s || t) ≡ true
 or-left s t h = rw h refl
 
-or-right : (s t : Bool) → t ≡ true → (s || t) ≡ true
+pub or-right : (s t : Bool) → t ≡ true → (s || t) ≡ true
 or-right true t h = refl
 or-right false t h = h
 

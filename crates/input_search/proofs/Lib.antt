@@ -12,9 +12,11 @@ mod RawRows
 mod AddSteps
 mod CellOrder
 mod Joined
-mod LevelSteps
 mod ListSteps
 mod RankSteps
 mod ReaderTaps
 mod FillSteps
 mod RawLinks
+mod WireNumbers
+mod WiringSteps
+mod Waves

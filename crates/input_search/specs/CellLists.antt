@@ -1,9 +1,8 @@
 -- Lists of cells of a build, and of their places.
-use Rattle.std.specs.Prelude.{ℕ, ◌<◌, ◌≡◌, Bool, true, List, All, map, filter}
+use Rattle.std.specs.Prelude.{ℕ, ◌<◌, Bool, List, All, map, filter}
 use Rattle.std.specs.List.{filter_map, list_any, range_with_len}
 use Rattle.std.proofs.Math.Dec.{eqb}
 use Rattle.circuit.specs.declared.Pos.{Pos}
-use Rattle.wire_shape.specs.Shape.{wire_at}
 use Rattle.build.specs.Plan.{Plan, volume, place_of, found_cell}
 
 abbrev pub has_cell : List ℕ → ℕ → Bool
@@ -22,7 +21,3 @@ places_of b cells = map (place_of b) cells
 
 abbrev pub AreCells : Plan → List ℕ → Type 0
 AreCells b cells = All (λ i. i < volume b) cells
-
--- a wire stands in each of the cells
-abbrev pub AreWires : Plan → List ℕ → Type 0
-AreWires b cells = All (λ p. wire_at b p ≡ true) (places_of b cells)

@@ -6,3 +6,5 @@ pub mod CellLists
 pub mod Readers
 pub mod Numbers
 pub mod Added
+pub mod Rows
+pub mod Wiring

@@ -3,10 +3,13 @@
 
 mod add;
 pub mod laws;
+mod met;
 mod node_links;
 mod readers;
+mod rows;
 mod search;
 mod taps;
+mod wiring;
 
 pub use node_links::link;
 

@@ -8,11 +8,13 @@ ghost use Rattle.graph.specs.RawNodes.{bare_nodes};
 ghost use Rattle.input_search.specs.Added.{plain_lists, list_at, IsFitting, AreFilled};
 ghost use Rattle.input_search.specs.Raw.{IsBare, raw};
 ghost use Rattle.input_search.specs.Numbers.{node_place, with_number, with_node, IsSpread, AreRanks, AreLinks, AreLists, numbered, numbered_links};
+ghost use Rattle.input_search.specs.Wiring.{IsWiring};
 
 use crate::add::add_all;
 use crate::readers::{push_back_links, push_side_links};
 use crate::search::{Origin, Search};
 use crate::taps::Tap;
+use crate::wiring::Wiring;
 use build::Build;
 use circuit::Pos;
 use graph::{Graph, Group, Link, NodeKey};
@@ -133,9 +135,11 @@ fn links_at(
     scratch: &mut Scratch,
     numbers: &[u32],
     build: &Build,
+    wiring: &Wiring,
     reader: Pos,
 ) -> Result<Vec<Link>, NoMemory>
-    requires { IsTrue (in_box build.now reader) }
+    requires wiring { IsWiring build.now wiring.now.cells.items wiring.now.feeders wiring.now.reads }
+    requires inside { IsTrue (in_box build.now reader) }
     ensures { IfOk result (λ links. links.items ≡ numbered_links build.now numbers.now reader) }
 {
     let Scratch {
@@ -145,10 +149,10 @@ fn links_at(
     } = scratch;
     let mut links = Vec::new(alloc);
     origins.clear();
-    push_back_links(origins, taps, search, build, reader)?;
+    push_back_links(origins, taps, search, build, wiring, reader)?;
     push_numbered(&mut links, numbers, build, Group::Back, origins)?;
     origins.clear();
-    push_side_links(origins, taps, search, build, reader)?;
+    push_side_links(origins, taps, search, build, wiring, reader)?;
     push_numbered(&mut links, numbers, build, Group::Side, origins)?;
     Ok(links)
 }
@@ -159,14 +163,16 @@ fn links_of_node(
     scratch: &mut Scratch,
     numbers: &[u32],
     build: &Build,
+    wiring: &Wiring,
     graph: &Graph,
     number: u32,
 ) -> Result<Vec<Link>, NoMemory>
-    requires { IsSpread build.now graph.now.nodes }
+    requires wiring { IsWiring build.now wiring.now.cells.items wiring.now.feeders wiring.now.reads }
+    requires spread { IsSpread build.now graph.now.nodes }
     ensures { IfOk result (λ links. AreLinks build.now numbers.now (node_place (node_at graph.now.nodes number)) links.items) }
 {
     match place_of_node(graph, Key::new(number)) {
-        Some(pos) => links_at(alloc, scratch, numbers, build, pos),
+        Some(pos) => links_at(alloc, scratch, numbers, build, wiring, pos),
         None => Ok(Vec::new(alloc)),
     }
 }
@@ -183,10 +189,11 @@ fn lists_of(
     ensures length { IfOk result (λ lists. length lists.items ≡ count) }
     ensures links { IfOk result (λ lists. AreLists build.now graph.now.nodes numbers.now count (map (λ list. list.items) lists.items)) }
 {
+    let wiring = Wiring::new(alloc, build)?;
     let mut scratch = Scratch::new(alloc);
     let mut lists = Vec::new(alloc);
     for number in 0..count {
-        let list = links_of_node(alloc, &mut scratch, numbers, build, graph, number)?;
+        let list = links_of_node(alloc, &mut scratch, numbers, build, &wiring, graph, number)?;
         lists.push(list)?;
     }
     Ok(lists)

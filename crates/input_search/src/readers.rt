@@ -8,9 +8,11 @@ ghost use Rattle.wire_shape.specs.Shape.{across};
 ghost use Rattle.input_search.specs.Taps.{back_taps, side_taps};
 ghost use Rattle.input_search.specs.Links.{tap_links, through, back_links_of, side_links_of};
 ghost use Rattle.input_search.specs.Readers.{IsWired, reader_taps, reader_side_taps};
+ghost use Rattle.input_search.specs.Wiring.{IsWiring};
 
 use crate::search::{Origin, Search, find_links};
 use crate::taps::{Tap, push_back_taps, push_side_taps, push_taps_around};
+use crate::wiring::Wiring;
 use block_table::{Block, Side, opposite};
 use build::Build;
 use circuit::Pos;
@@ -101,15 +103,17 @@ fn push_tap_links(
     links: &mut Vec<Origin>,
     search: &mut Search,
     build: &Build,
+    wiring: &Wiring,
     tap: Tap,
 ) -> Result<(), NoMemory>
-    requires { IsWired build.now tap }
+    requires wiring { IsWiring build.now wiring.now.cells.items wiring.now.feeders wiring.now.reads }
+    requires tap { IsWired build.now tap }
     ensures { OnOk result (links.new.items ≡ links.old.items ++ tap_links build.now tap) }
 {
     match tap {
         Tap::Direct(place) => links.push(Origin { place, weight: 0 })?,
         Tap::Wired(wire) => {
-            find_links(search, build, wire)?;
+            find_links(search, build, wiring, wire)?;
             links.extend_from_slice(&search.links)?;
         }
     }
@@ -120,13 +124,15 @@ fn push_through(
     links: &mut Vec<Origin>,
     search: &mut Search,
     build: &Build,
+    wiring: &Wiring,
     taps: &[Tap],
 ) -> Result<(), NoMemory>
-    requires { All (IsWired build.now) taps.now }
+    requires wiring { IsWiring build.now wiring.now.cells.items wiring.now.feeders wiring.now.reads }
+    requires taps { All (IsWired build.now) taps.now }
     ensures { OnOk result (links.new.items ≡ links.old.items ++ through build.now taps.now) }
 {
     for tap in taps {
-        push_tap_links(links, search, build, *tap)?;
+        push_tap_links(links, search, build, wiring, *tap)?;
     }
     Ok(())
 }
@@ -137,14 +143,16 @@ pub(crate) fn push_back_links(
     taps: &mut Vec<Tap>,
     search: &mut Search,
     build: &Build,
+    wiring: &Wiring,
     reader: Pos,
 ) -> Result<(), NoMemory>
-    requires { IsTrue (in_box build.now reader) }
+    requires wiring { IsWiring build.now wiring.now.cells.items wiring.now.feeders wiring.now.reads }
+    requires inside { IsTrue (in_box build.now reader) }
     ensures { OnOk result (links.new.items ≡ links.old.items ++ back_links_of build.now reader (block_at build.now reader)) }
 {
     taps.clear();
     push_reader_taps(taps, build, reader)?;
-    push_through(links, search, build, taps)
+    push_through(links, search, build, wiring, taps)
 }
 
 /// Appends the Side links into the node of a place.
@@ -153,12 +161,14 @@ pub(crate) fn push_side_links(
     taps: &mut Vec<Tap>,
     search: &mut Search,
     build: &Build,
+    wiring: &Wiring,
     reader: Pos,
 ) -> Result<(), NoMemory>
-    requires { IsTrue (in_box build.now reader) }
+    requires wiring { IsWiring build.now wiring.now.cells.items wiring.now.feeders wiring.now.reads }
+    requires inside { IsTrue (in_box build.now reader) }
     ensures { OnOk result (links.new.items ≡ links.old.items ++ side_links_of build.now reader (block_at build.now reader)) }
 {
     taps.clear();
     push_reader_side_taps(taps, build, reader)?;
-    push_through(links, search, build, taps)
+    push_through(links, search, build, wiring, taps)
 }

@@ -1,4 +1,5 @@
-//! The raw graphs of small builds, as text.
+//! The raw graphs of small builds, as text. The texts were derived by hand from the rules of nodes, taps
+//! and distances.
 
 use crate::link;
 use block_table::{Block, parse_state};
@@ -505,6 +506,66 @@ fn wire_square(rt: HostRuntime) -> Result<(), Fail> {
         node 2 wire 2 1 1 0\n\
         link 0 1 back 0\n\
         link 0 2 back 2\n",
+    )?;
+    Ok(())
+}
+
+// The sides of a comparator take a wire and a block of redstone, in the order of sides.
+#[test]
+fn comparator_sides(rt: HostRuntime) -> Result<(), Fail> {
+    let blocks = [
+        (at(0, 1, 1), "lever[face=floor]"),
+        (at(1, 1, 1), "comparator[facing=west,mode=subtract]"),
+        (at(1, 1, 0), "redstone_block"),
+        (at(1, 1, 2), "redstone_wire"),
+        (at(0, 1, 2), "redstone_wire"),
+        (at(2, 1, 1), "redstone_lamp"),
+    ];
+    let build = floored(&rt, rt.alloc(), at(3, 2, 3), &blocks)?;
+    assert_raw(
+        &rt,
+        rt.alloc(),
+        &build,
+        &[],
+        b"graph 4 4\n\
+        node 0 constant 1 1 0 15\n\
+        node 1 lever 0 1 1 0\n\
+        node 2 comparator 1 1 1 0 subtract\n\
+        node 3 lamp 2 1 1 0\n\
+        link 1 2 back 0\n\
+        link 0 2 side 0\n\
+        link 1 2 side 1\n\
+        link 2 3 back 0\n",
+    )?;
+    Ok(())
+}
+
+// The links of each tap stand behind those of the taps before it. A mark where no wire stands counts
+// for nothing.
+#[test]
+fn lamp_under_a_wire(rt: HostRuntime) -> Result<(), Fail> {
+    let blocks = [
+        (at(0, 0, 0), "stone"),
+        (at(1, 0, 0), "redstone_lamp"),
+        (at(2, 0, 0), "stone"),
+        (at(3, 0, 0), "stone"),
+        (at(0, 1, 0), "redstone_wire"),
+        (at(1, 1, 0), "redstone_wire"),
+        (at(2, 1, 0), "redstone_wire"),
+        (at(3, 1, 0), "lever[face=floor]"),
+    ];
+    let build = box_of(&rt, rt.alloc(), at(4, 2, 1), &blocks)?;
+    assert_raw(
+        &rt,
+        rt.alloc(),
+        &build,
+        &[at(0, 0, 0)],
+        b"graph 2 3\n\
+        node 0 lamp 1 0 0 0\n\
+        node 1 lever 3 1 0 0\n\
+        link 1 0 back 1\n\
+        link 1 0 back 2\n\
+        link 1 0 back 0\n",
     )?;
     Ok(())
 }

@@ -9,8 +9,8 @@ use Rattle.input_search.specs.Readers.{IsWired, reader_taps}
 use Rattle.input_search.proofs.ReaderTaps.{readers_wired, back_through}
 use Rattle.input_search.proofs.readers.push_back_links.Goals as goal
 
-pub push_through-requires : goal.push_through-requires
-push_through-requires c =
+pub push_through-requires-clause-taps : goal.push_through-requires-clause-taps
+push_through-requires-clause-taps c =
     let b : Plan = c.args.build.now in
     let p : Pos = c.args.reader in
     let is : c.push_reader_taps.new.taps.items ≡ reader_taps b p (block_at b p) = c.in_ok-push_reader_taps.ensures ∙ ap (λ (taps : List Tap). taps ++ reader_taps b p (block_at b p)) c.clear.ensures.items in

@@ -1,0 +1,114 @@
+-- The wires of a build by their numbers.
+use Rattle.std.proofs.Common.{◌≡◌, ℕ, zero, suc, ◌+◌, ◌<◌, ◌≤◌, Bool, true, List, [], ◌∷◌, length, get_or, refl, sym, ◌∙◌, ap, subst, arith, inl, inr, eq-eqb, eqb-true}
+use Rattle.std.specs.Prelude.{All, AllPairs, Contains}
+use Rattle.std.specs.List.{range_with_len}
+use Rattle.std.proofs.Math.Dec.{eqb}
+use Rattle.std.proofs.lemmas.Bool.{cases_Bool, cases_lt, false≢true}
+use Rattle.std.proofs.lemmas.List.{get_or_default}
+use Rattle.std.proofs.lemmas.List.Elements.{All-nil, All-cons, Contains-get_or}
+use Rattle.std.proofs.lemmas.List.Sums.{length-filter, count_by-le-length}
+use Rattle.std.proofs.lemmas.List.FromFn.{length-range_with_len}
+use Rattle.circuit.specs.declared.Pos.{Pos}
+use Rattle.circuit.specs.Circuit.{Each, EachBefore, Among}
+use Rattle.circuit.proofs.Keys.{among_filter}
+use Rattle.build.specs.Plan.{Plan, volume, cell_of, place_of}
+use Rattle.build.specs.Places.{inside, cell_below, place-cell, cell-place}
+use Rattle.wire_shape.specs.Shape.{wire_at}
+use Rattle.wire_shape.specs.WirePlaces.{wire_inside}
+use Rattle.input_search.specs.CellLists.{has_cell}
+use Rattle.input_search.specs.Wiring.{wire_cells, wire_place}
+use Rattle.input_search.proofs.CellOrder.{range_has}
+use Rattle.input_search.proofs.Distances.{or-right}
+use Rattle.input_search.proofs.Lists.{among-filter, Contains-among, among-Contains}
+use Rattle.input_search.proofs.Order.{before-filter, before-pairs}
+
+-- ---- numbers in lists
+
+pub has-among : (xs : List ℕ) (i : ℕ) → Among xs i → has_cell xs i ≡ true
+has-among [] i h = absurd h
+has-among (x ∷ xs) i (inl e) = rw (eq-eqb i x e) refl
+has-among (x ∷ xs) i (inr h) = or-right (eqb i x) (has_cell xs i) (has-among xs i h)
+
+pub among-has : (xs : List ℕ) (i : ℕ) → has_cell xs i ≡ true → Among xs i
+among-has [] i h = absurd (false≢true h)
+among-has (x ∷ xs) i h = elim (cases_Bool (eqb i x)) [
+  | inl e ↦ inl (eqb-true i x e)
+  | inr e ↦ inr (among-has xs i (rw e at h))
+]
+
+pub all-among : (P : ℕ → Type 0) (xs : List ℕ) → ((i : ℕ) → Among xs i → P i) → All P xs
+all-among P [] h = All-nil P
+all-among P (x ∷ xs) h = All-cons P x xs (h x (inl refl)) (all-among P xs (λ i k. h i (inr k)))
+
+over_range : (k a n : ℕ) → k < a → Each (λ j. k < j) (range_with_len a n)
+over_range k a zero h = tt
+over_range k a (suc n) h = (h, over_range k (a + 1) n (omega arith))
+
+range_before : (a n : ℕ) → EachBefore (λ i j. i < j) (range_with_len a n)
+range_before a zero = tt
+range_before a (suc n) = (over_range a (a + 1) n (omega arith), range_before (a + 1) n)
+
+among-range : (a n i : ℕ) → Among (range_with_len a n) i → i < a + n
+among-range a zero i h = absurd h
+among-range a (suc n) i (inl e) = omega arith
+among-range a (suc n) i (inr h) = omega (arith, among-range (a + 1) n i h)
+
+-- ---- the wires
+
+module _ (b : Plan) (cells : List ℕ) (wires : cells ≡ wire_cells b) where
+  abbrev is_wire : ℕ → Bool
+  is_wire i = wire_at b (place_of b i)
+
+  pub cells-rise : AllPairs (λ i j. i < j) cells
+  cells-rise =
+      subst (λ (xs : List ℕ). AllPairs (λ i j. i < j) xs) (sym wires)
+      (before-pairs (λ i j. i < j) (wire_cells b) (before-filter (λ i j. i < j) is_wire (range_with_len 0 (volume b)) (range_before 0 (volume b))))
+
+  pub cells-few : length cells ≤ volume b
+  cells-few =
+      omega (arith, ap length wires, length-filter is_wire (range_with_len 0 (volume b)), count_by-le-length is_wire (range_with_len 0 (volume b)), length-range_with_len 0 (volume b))
+
+  cell-in : (number : ℕ) → number < length cells → Among (range_with_len 0 (volume b)) (get_or cells number 0) × (is_wire (get_or cells number 0) ≡ true)
+  cell-in number h =
+      let i : Among cells (get_or cells number 0) = Contains-among cells (get_or cells number 0) (Contains-get_or cells number 0 h) in
+      among-filter is_wire (range_with_len 0 (volume b)) (get_or cells number 0) (subst (λ (xs : List ℕ). Among xs (get_or cells number 0)) wires i)
+
+  pub cell-inside : (number : ℕ) → number < length cells → get_or cells number 0 < volume b
+  cell-inside number h = omega (arith, among-range 0 (volume b) (get_or cells number 0) (cell-in number h).0)
+
+  pub number-wire : (number : ℕ) → number < length cells → wire_at b (wire_place b cells number) ≡ true
+  number-wire number h = (cell-in number h).1
+
+  pub wire-listed : (p : Pos) → wire_at b p ≡ true → has_cell cells (cell_of b p) ≡ true
+  wire-listed p h =
+      let at_p = inside b p (wire_inside b p h) in
+      let i : Among (wire_cells b) (cell_of b p) =
+      among_filter is_wire (range_with_len 0 (volume b)) (cell_of b p) (among-has (range_with_len 0 (volume b)) (cell_of b p) (range_has 0 (volume b) (cell_of b p) (omega arith) (omega (arith, cell_below b p at_p))))
+      (ap (wire_at b) (place-cell b p at_p) ∙ h) in
+      has-among cells (cell_of b p) (subst (λ (xs : List ℕ). Among xs (cell_of b p)) (sym wires) i)
+
+  pub number-place : (p : Pos) (number : ℕ) → wire_at b p ≡ true → get_or cells number 0 ≡ cell_of b p → wire_place b cells number ≡ p
+  number-place p number h e = ap (place_of b) e ∙ place-cell b p (inside b p (wire_inside b p h))
+
+  pub numbers-apart : (i j : ℕ) → i < length cells → j < length cells → wire_place b cells i ≡ wire_place b cells j → i ≡ j
+  numbers-apart i j h k e =
+      let same : get_or cells i 0 ≡ get_or cells j 0 = sym (cell-place b (get_or cells i 0)) ∙ ap (cell_of b) e ∙ cell-place b (get_or cells j 0) in
+      elim (cases_lt i j) [
+        | inl less ↦ absurd (let rises : get_or cells i 0 < get_or cells j 0 = cells-rise i j 0 less k in omega arith)
+        | inr more ↦ elim (cases_lt j i) [
+          | inl less ↦ absurd (let rises : get_or cells j 0 < get_or cells i 0 = cells-rise j i 0 less h in omega arith)
+          | inr same ↦ omega arith
+        ]
+      ]
+
+  -- the number of a wire
+  pub record Numbered (p : Pos) : Type 0 where
+    pub number : ℕ
+    pub below : number < length cells
+    pub place : wire_place b cells number ≡ p
+
+  pub numbered : (p : Pos) → wire_at b p ≡ true → Numbered p
+  numbered p h =
+      let r : Contains cells (cell_of b p) = among-Contains cells (cell_of b p) (among-has cells (cell_of b p) (wire-listed p h)) in
+      let there : get_or cells r.0 0 ≡ cell_of b p = get_or_default cells r.0 0 (cell_of b p) r.1 ∙ r.2 in
+      record { number = r.0; below = r.1; place = number-place p r.0 h there }
