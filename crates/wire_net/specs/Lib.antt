@@ -5,3 +5,4 @@ pub mod Listed
 pub mod WaveSteps
 pub mod Ready
 pub mod HandNet
+pub mod Noted

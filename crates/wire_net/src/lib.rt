@@ -14,8 +14,8 @@ mod work;
 
 use rp_text::NoMemory;
 use std::alloc::Global;
-pub use waves::resolve;
-pub use work::Work;
+pub use waves::{resolve, resolve_noted};
+pub use work::{Waves, Work};
 
 /// A net of cells, which are numbered from 0. Each has a base power, and cells that feed it.
 ///

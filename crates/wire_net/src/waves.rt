@@ -1,12 +1,13 @@
 //! The right powers anew after some base powers have changed, by a falling and a rising wave.
 
-ghost use Rattle.std.specs.Prelude.{◌≡◌, ℕ, ◌+◌, ◌-◌, ◌<◌, ◌≤◌, ◌∷◌, ◌++◌, [], List, length, map, max, slice_index, vec_capacity, vec_len};
+ghost use Rattle.std.specs.Prelude.{◌≡◌, ℕ, ◌+◌, ◌-◌, ◌<◌, ◌≤◌, ◌⊎◌, ◌∷◌, ◌++◌, [], List, length, map, max, slice_index, vec_capacity, vec_len};
 ghost use Rattle.wire_net.specs.Listed.{list_at};
 ghost use Rattle.wire_net.specs.Net.{Cell, cell_at, feeders_of, greatest, power_under, IsRight, WasRight};
-ghost use Rattle.wire_net.specs.WaveSteps.{AreBelow, count_from, Falling, Fell, IsTurned, Nothing, Rising, Rose};
+ghost use Rattle.wire_net.specs.Noted.{AreCells, InSome, IsNoted, Notes};
+ghost use Rattle.wire_net.specs.WaveSteps.{AreBelow, count_from, Falling, Fell, Has, IsTurned, Nothing, Rising, Rose};
 
 use crate::cell_lists::CellLists;
-use crate::{Net, Work};
+use crate::{Net, Waves, Work};
 
 // What it costs. A cell is looked at if it is a changed or a fallen one, or if a cell feeds it that
 // fell or rose; a look reads the powers of its feeders. No cell falls twice, since a power of 0 has
@@ -33,25 +34,38 @@ pub fn resolve<N: Net>(net: &N, powers: &mut [u8], changed: &[u32], work: &mut W
     ensures right { IsRight (N.net net.now) powers.new }
     ensures made { work.new ≡ work.old }
 {
-    work.fallen.clear();
-    work.levels.clear();
+    resolve_noted(net, powers, changed, &mut work.waves);
+}
+
+/// As `resolve`. It lists each cell whose power changes.
+pub fn resolve_noted<N: Net>(net: &N, powers: &mut [u8], changed: &[u32], waves: &mut Waves)
+    requires made { waves.old.feeders ≡ feeders_of (N.net net.now) }
+    requires right { WasRight (N.net net.now) powers.old changed.now }
+    requires cells { AreBelow (length (N.net net.now)) changed.now }
+    ensures right { IsRight (N.net net.now) powers.new }
+    ensures made { waves.new.feeders ≡ waves.old.feeders }
+    ensures noted { (cell : ℕ) → (slice_index powers.new cell ≡ slice_index powers.old cell) ⊎ IsNoted waves.new cell }
+    ensures cells { AreCells (length (N.net net.now)) waves.new }
+{
+    waves.fallen.clear();
+    waves.levels.clear();
     fall(
         net,
-        &work.feeders,
-        &work.fed,
+        &waves.feeders,
+        &waves.fed,
         powers,
         changed,
-        &mut work.fallen,
+        &mut waves.fallen,
     );
     start_rise(
         net,
-        &work.feeders,
+        &waves.feeders,
         powers,
         changed,
-        &work.fallen,
-        &mut work.levels,
+        &waves.fallen,
+        &mut waves.levels,
     );
-    rise(net, &work.feeders, &work.fed, powers, &mut work.levels);
+    rise(net, &waves.feeders, &waves.fed, powers, &mut waves.levels);
 }
 
 // The falling wave: each cell whose power has lost its support falls to 0, and so do those that
@@ -71,6 +85,7 @@ fn fall<N: Net>(
     requires empty { fallen.old.items ≡ [] }
     requires room { length (N.net net.now) ≤ vec_capacity fallen.old }
     ensures falling { Falling (N.net net.now) changed.now powers.new fallen.new.items (length fallen.new.items) [] 0 }
+    ensures noted { Notes powers.old (Has fallen.old.items) powers.new (Has fallen.new.items) }
     ensures room { length (N.net net.now) ≤ vec_capacity fallen.new }
 {
     for cell in changed {
@@ -123,6 +138,7 @@ fn start_rise<N: Net>(
     requires empty { (l : ℕ) → list_at levels.old.lists l ≡ [] }
     requires room { length (N.net net.now) ≤ levels.old.room }
     ensures rising { Rising (N.net net.now) powers.new levels.new.lists 15 0 Nothing }
+    ensures noted { Notes powers.old (InSome levels.old.lists) powers.new (InSome levels.new.lists) }
     ensures room { levels.new.room ≡ levels.old.room }
 {
     for cell in changed {
@@ -146,6 +162,7 @@ fn rise<N: Net>(
     requires rising { Rising (N.net net.now) powers.old levels.old.lists 15 0 Nothing }
     requires room { length (N.net net.now) ≤ levels.old.room }
     ensures rising { Rising (N.net net.now) powers.new levels.new.lists 0 0 Nothing }
+    ensures noted { Notes powers.old (InSome levels.old.lists) powers.new (InSome levels.new.lists) }
     ensures room { levels.new.room ≡ levels.old.room }
 {
     let mut level = 15;
@@ -170,6 +187,7 @@ fn rise_from<N: Net>(
     requires rising { Rising (N.net net.now) powers.old levels.old.lists level 0 Nothing }
     requires room { length (N.net net.now) ≤ levels.old.room }
     ensures rising { Rising (N.net net.now) powers.new levels.new.lists (level - 1) 0 Nothing }
+    ensures noted { Notes powers.old (InSome levels.old.lists) powers.new (InSome levels.new.lists) }
     ensures room { levels.new.room ≡ levels.old.room }
 {
     let mut next = 0;

@@ -1,8 +1,8 @@
 //! What `resolve` keeps from call to call.
 
-ghost use Rattle.std.specs.Prelude.{◌≡◌, ℕ, List, IfOk, vec_capacity};
+ghost use Rattle.std.specs.Prelude.{◌≡◌, ◌<◌, ℕ, List, IfOk};
+ghost use Rattle.wire_net.specs.Listed.{list_at};
 ghost use Rattle.wire_net.specs.Net.{feeders_of};
-ghost use Rattle.wire_net.specs.Ready.{IsReady};
 
 use crate::Net;
 use crate::cell_lists::CellLists;
@@ -14,6 +14,31 @@ use std::marker::Model;
 /// feeds, and the room that `resolve` needs. Contracts see it as the feeders of each cell.
 #[derive(Drop)]
 pub struct Work {
+    pub(crate) waves: Waves,
+}
+
+impl Model for Work {
+    ghost Value = { List (List ℕ) };
+
+    ghost view = { λ w. w.waves.feeders };
+
+    ghost invariant = { λ w. Unit {0} };
+}
+
+impl Work {
+    /// Work for this net, and for each other net with the same cells and feeders.
+    pub fn new<N: Net>(alloc: Global, net: &N) -> Result<Work, NoMemory>
+        ensures { IfOk result (λ work. work ≡ feeders_of (N.net net.now)) }
+    {
+        let waves = Waves::new(alloc, net)?;
+        Ok(Work { waves })
+    }
+}
+
+/// As `Work`, with the cells that the last call of `resolve_noted` listed. Contracts see the
+/// feeders of each cell and those lists.
+#[derive(Drop)]
+pub struct Waves {
     pub(crate) feeders: CellLists,
     pub(crate) fed: CellLists,
     // The cells that fell to 0 in the call.
@@ -22,18 +47,22 @@ pub struct Work {
     pub(crate) levels: CellLists,
 }
 
-impl Model for Work {
-    ghost Value = { List (List ℕ) };
+impl Model for Waves {
+    ghost use Rattle.std.specs.Prelude.{vec_capacity};
+    ghost use Rattle.wire_net.specs.Noted.{Waved};
+    ghost use Rattle.wire_net.specs.Ready.{IsReady};
 
-    ghost view = { λ w. w.feeders.lists };
+    ghost Value = { Waved };
+
+    ghost view = { λ w. record { feeders = w.feeders.lists; fallen = w.fallen.items; levels = w.levels.lists } };
 
     ghost invariant = { λ w. IsReady w.feeders w.fed w.levels (vec_capacity w.fallen) };
 }
 
-impl Work {
-    /// Work for this net, and for each other net with the same cells and feeders.
-    pub fn new<N: Net>(alloc: Global, net: &N) -> Result<Work, NoMemory>
-        ensures { IfOk result (λ work. work ≡ feeders_of (N.net net.now)) }
+impl Waves {
+    /// The lists for this net, and for each other net with the same cells and feeders.
+    pub fn new<N: Net>(alloc: Global, net: &N) -> Result<Waves, NoMemory>
+        ensures { IfOk result (λ waves. waves.feeders ≡ feeders_of (N.net net.now)) }
     {
         let cells = net.cells() as usize;
         let mut feeders = CellLists::new(alloc, cells, 0)?;
@@ -47,11 +76,26 @@ impl Work {
         }
         let fallen = Vec::with_capacity(alloc, cells)?;
         let levels = CellLists::new(alloc, 16, cells)?;
-        Ok(Work {
+        Ok(Waves {
             feeders,
             fed,
             fallen,
             levels,
         })
+    }
+
+    /// The cells that fell to 0 in the last call. Some of them may have risen since.
+    pub fn fallen(&self) -> &[u32]
+        ensures { result.now ≡ self.now.fallen }
+    {
+        &self.fallen
+    }
+
+    /// The cells that rose to this power in the last call.
+    pub fn risen(&self, power: u8) -> &[u32]
+        requires { power < 16 }
+        ensures { result.now ≡ list_at self.now.levels power }
+    {
+        self.levels.list(power as usize)
     }
 }

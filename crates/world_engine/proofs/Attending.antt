@@ -17,7 +17,7 @@ use Rattle.power_rules.specs.RightWires.{level_with, levels, wire_powers}
 use Rattle.world_engine.specs.Things.{Numbered, IsNumbered, held, nothing, state_by}
 use Rattle.world_engine.specs.WireThings.{things_levels}
 use Rattle.world_engine.specs.Given.{given-le}
-use Rattle.world_engine.specs.Running.{circuit_of, given_by, reads_of, ArePowers, AreWithin, after_attending, Attends}
+use Rattle.world_engine.specs.Running.{circuit_of, given_by, reads_of, ArePowers, AreStill, AreWithin, after_attending, Attends}
 
 out-attended : (component : Component) (aim value : ℕ) → out component (attended_value component aim value) ≡ out component value
 out-attended Lamp aim value = refl
@@ -30,11 +30,12 @@ out_at-after : (time : ℕ) (role : Option Component) (first : Bool) (base : ℕ
 out_at-after time None first base reads p cell = refl
 out_at-after time (Some component) first base reads p cell = out-attended component (goal component (reads p)) cell.value
 
-attended_at-twice : (time : ℕ) (role : Option Component) (first : Bool) (reads : Pos → Readings) (p : Pos) (cell : Cell) →
-    attended_at time role first reads p (attended_at time role first reads p cell) ≡ attended_at time role first reads p cell
-attended_at-twice time None first reads p cell = refl
-attended_at-twice time (Some component) first reads p cell =
-    attended-settled time component first (reads p) (attended_at time (Some component) first reads p cell) (settled_attended time component first (reads p) cell)
+-- who has attended has no more to do, at whatever time
+attended_at-again : (later time : ℕ) (role : Option Component) (first : Bool) (reads : Pos → Readings) (p : Pos) (cell : Cell) →
+    attended_at later role first reads p (attended_at time role first reads p cell) ≡ attended_at time role first reads p cell
+attended_at-again later time None first reads p cell = refl
+attended_at-again later time (Some component) first reads p cell =
+    attended-settled later component first (reads p) (attended_at time (Some component) first reads p cell) (settled_attended time component first (reads p) cell)
 
 -- attending doesn't change what is given, and so not what is read
 pub given-attends : (m : Numbered) (time : ℕ) (powers : List ℕ) (old new : List Cell) (D : Pos → Type 0) → Attends m time powers old new D → given_by m new ≡ given_by m old
@@ -68,7 +69,7 @@ attends-then m time powers a b c D E f g = record { each = λ p. both p (f.each 
     A p cell = after_attending m time (reads_of m a powers) p cell
 
     twice : (p : Pos) (cell : Cell) → A p (A p cell) ≡ A p cell
-    twice p cell = attended_at-twice time (role_at m.plan m.marks p) (first_at m.plan p) (reads_of m a powers) p cell
+    twice p cell = attended_at-again time time (role_at m.plan m.marks p) (first_at m.plan p) (reads_of m a powers) p cell
 
     same : (p : Pos) (cell : Cell) → after_attending m time (reads_of m b powers) p cell ≡ A p cell
     same p cell = ap (λ (r : Pos → Readings). after_attending m time r p cell) (reads-attends m time powers a b D f)
@@ -102,6 +103,22 @@ pub reads-right : (m : Numbered) → IsNumbered m → (cells : List Cell) (power
 reads-right m w cells powers within right = ap (λ (l : Pos → ℕ). readings_at m.plan l) (things_levels m w (given_by m cells) powers (given-le m cells within) right)
 
 -- where each place has attended or needn't, all have
+pub each-attended : (m : Numbered) (time : ℕ) (powers : List ℕ) (old new : List Cell) (D : Pos → Type 0) → Attends m time powers old new D →
+    ((p : Pos) → D p ⊎ (after_attending m time (reads_of m old powers) p (held m old nothing p) ≡ held m old nothing p)) →
+    (p : Pos) → held m new nothing p ≡ after_attending m time (reads_of m old powers) p (held m old nothing p)
+each-attended m time powers old new D a rest p = mine (rest p)
+  where
+    still : (held m new nothing p ≡ held m old nothing p) ⊎ (held m new nothing p ≡ after_attending m time (reads_of m old powers) p (held m old nothing p)) →
+        after_attending m time (reads_of m old powers) p (held m old nothing p) ≡ held m old nothing p →
+        held m new nothing p ≡ after_attending m time (reads_of m old powers) p (held m old nothing p)
+    still (inl e) quiet = e ∙ sym quiet
+    still (inr e) quiet = e
+
+    mine : D p ⊎ (after_attending m time (reads_of m old powers) p (held m old nothing p) ≡ held m old nothing p) →
+        held m new nothing p ≡ after_attending m time (reads_of m old powers) p (held m old nothing p)
+    mine (inl d) = a.done p d
+    mine (inr quiet) = still (a.each p) quiet
+
 pub all-attended : (m : Numbered) → IsNumbered m → (time : ℕ) (powers : List ℕ) (old new : List Cell) (D : Pos → Type 0) → AreWithin m old → ArePowers m old powers → Attends m time powers old new D →
     ((p : Pos) → D p ⊎ (after_attending m time (reads_of m old powers) p (held m old nothing p) ≡ held m old nothing p)) →
     state_by m time new ≡ attend (circuit_of m) (state_by m time old)
@@ -110,19 +127,21 @@ all-attended m w time powers old new D within right a rest = λ i. record { time
     reads : Pos → Readings
     reads = readings_at m.plan (levels m.plan (given_by m old) (wire_powers m.plan (given_by m old)))
 
-    still : (p : Pos) → (held m new nothing p ≡ held m old nothing p) ⊎ (held m new nothing p ≡ after_attending m time (reads_of m old powers) p (held m old nothing p)) →
-        after_attending m time (reads_of m old powers) p (held m old nothing p) ≡ held m old nothing p →
-        held m new nothing p ≡ after_attending m time (reads_of m old powers) p (held m old nothing p)
-    still p (inl e) quiet = e ∙ sym quiet
-    still p (inr e) quiet = e
-
-    mine : (p : Pos) → D p ⊎ (after_attending m time (reads_of m old powers) p (held m old nothing p) ≡ held m old nothing p) →
-        held m new nothing p ≡ after_attending m time (reads_of m old powers) p (held m old nothing p)
-    mine p (inl d) = a.done p d
-    mine p (inr quiet) = still p (a.each p) quiet
-
     cell : (p : Pos) → held m new nothing p ≡ after_attending m time reads p (held m old nothing p)
-    cell p = mine p (rest p) ∙ ap (λ (r : Pos → Readings). after_attending m time r p (held m old nothing p)) (reads-right m w old powers within right)
+    cell p = each-attended m time powers old new D a rest p ∙ ap (λ (r : Pos → Readings). after_attending m time r p (held m old nothing p)) (reads-right m w old powers within right)
+
+-- and then all are still
+pub still-attended : (m : Numbered) (time : ℕ) (powers : List ℕ) (old new : List Cell) (D : Pos → Type 0) → Attends m time powers old new D →
+    ((p : Pos) → D p ⊎ (after_attending m time (reads_of m old powers) p (held m old nothing p) ≡ held m old nothing p)) → AreStill m new powers
+still-attended m time powers old new D a rest = record { each = λ p later. here p later }
+  where
+    here : (p : Pos) (later : ℕ) → after_attending m later (reads_of m new powers) p (held m new nothing p) ≡ held m new nothing p
+    here p later =
+        let all : held m new nothing p ≡ after_attending m time (reads_of m old powers) p (held m old nothing p) = each-attended m time powers old new D a rest p in
+        ap (λ (r : Pos → Readings). after_attending m later r p (held m new nothing p)) (reads-attends m time powers old new D a)
+        ∙ ap (λ (c : Cell). after_attending m later (reads_of m old powers) p c) all
+        ∙ attended_at-again later time (role_at m.plan m.marks p) (first_at m.plan p) (reads_of m old powers) p (held m old nothing p)
+        ∙ sym all
 
 -- ---- within bounds
 

@@ -1,5 +1,5 @@
 -- What a click means for the cells of things.
-use Rattle.std.proofs.Common.{◌≡◌, ℕ, List, Some, None, refl, sym, ap, ◌∙◌}
+use Rattle.std.proofs.Common.{◌≡◌, ℕ, Some, None, refl, sym, ap, ◌∙◌}
 use Rattle.circuit.specs.declared.Pos.{Pos}
 use Rattle.circuit.specs.declared.Click.{Click}
 use Rattle.circuit.specs.declared.Cell.{Cell}
@@ -9,8 +9,9 @@ use Rattle.circuit.specs.Circuit.{put, attend, with_value, Clicks}
 use Rattle.circuit.specs.Taken.{Takes}
 use Rattle.circuit.proofs.Runs.{clicked_where_taken}
 use Rattle.build.specs.Roles.{role_at}
-use Rattle.world_engine.specs.Things.{Numbered, IsNumbered, number_at, held, nothing, state_by}
-use Rattle.world_engine.specs.Running.{circuit_of}
+use Rattle.cell_queue.specs.Held.{Holding}
+use Rattle.world_engine.specs.Things.{Numbered, IsNumbered, number_at, held, nothing}
+use Rattle.world_engine.specs.Running.{circuit_of, state_of}
 use Rattle.world_engine.proofs.Held.{number_role}
 
 -- where nothing stands, no click is taken
@@ -33,16 +34,16 @@ refused_click m p click component value there none takes =
     let some = clicked_where_taken takes.component click value takes.taken in
     let clash : None ≡ Some some.0 = sym none ∙ ap (λ (x : Component). clicked x click value) (sym one) ∙ some.1 in absurd (cc)
 
-pub taken_click : (m : Numbered) (p : Pos) (click : Click) (component : Component) (time value : ℕ) (old new : List Cell) (cell : Cell) → role_at m.plan m.marks p ≡ Some component →
-    cell ≡ held m old nothing p → clicked component click cell.value ≡ Some value →
-    state_by m time new ≡ attend (circuit_of m) (put (circuit_of m) (state_by m time old) p (with_value cell value)) →
-    Clicks (circuit_of m) p click (state_by m time old) (state_by m time new)
-taken_click m p click component time value old new cell there here takes after = record {
+pub taken_click : (m : Numbered) (p : Pos) (click : Click) (component : Component) (value : ℕ) (old new : Holding) (cell : Cell) → role_at m.plan m.marks p ≡ Some component →
+    cell ≡ held m old.cells nothing p → clicked component click cell.value ≡ Some value →
+    state_of m new ≡ attend (circuit_of m) (put (circuit_of m) (state_of m old) p (with_value cell value)) →
+    Clicks (circuit_of m) p click (state_of m old) (state_of m new)
+taken_click m p click component value old new cell there here takes after = record {
   key = p;
   component = component;
   value = value;
   there = there;
   place = refl;
   takes = ap (λ (c : Cell). clicked component click c.value) (sym here) ∙ takes;
-  after = after ∙ ap (λ (c : Cell). attend (circuit_of m) (put (circuit_of m) (state_by m time old) p (with_value c value))) here;
+  after = after ∙ ap (λ (c : Cell). attend (circuit_of m) (put (circuit_of m) (state_of m old) p (with_value c value))) here;
 }

@@ -7,3 +7,13 @@ pub mod Due
 pub mod Within
 pub mod Clicking
 pub mod Shown
+pub mod Nearness
+pub mod Locality
+pub mod Spots
+pub mod NearSteps
+pub mod Reached
+pub mod Follow
+pub mod AttendSteps
+pub mod Playing
+pub mod Settling
+pub mod Starting

@@ -15,9 +15,9 @@ use Rattle.world_engine.specs.Things.{Numbered, IsNumbered, number_at, held, not
 use Rattle.world_engine.specs.Numbers.{number_cases, held-there, held-none}
 use Rattle.world_engine.specs.WireThings.{thing_cells}
 use Rattle.wire_net.specs.Net.{IsRight}
-use Rattle.world_engine.specs.Running.{circuit_of, reads_of, ArePowers, AreWithin, after_attending, Attends, spot}
+use Rattle.world_engine.specs.Running.{circuit_of, reads_of, ArePowers, AreStill, AreWithin, after_attending, Attends, spot}
 use Rattle.world_engine.proofs.Held.{held-set, role_none, spot-there}
-use Rattle.world_engine.proofs.Attending.{attends-then, attends-fewer, all-attended, given-attends}
+use Rattle.world_engine.proofs.Attending.{attends-then, attends-fewer, all-attended, still-attended, given-attends}
 
 attended_none : (time : ℕ) (role : Option Component) (first : Bool) (reads : Pos → Readings) (p : Pos) (cell : Cell) → role ≡ None → attended_at time role first reads p cell ≡ cell
 attended_none time None first reads p cell h = refl
@@ -39,11 +39,15 @@ attend-set m w time powers cells p n cell l e is = record { each = λ q. one q (
     one q true s = inr (here q (place_one q p s))
     one q false s = inl (held-set m w cells nothing cell p q n l e ∙ ap (λ (t : Bool). cond t cell (held m cells nothing q)) s)
 
-pub attend-nothing : (m : Numbered) → IsNumbered m → (time : ℕ) (powers : List ℕ) (cells : List Cell) (p : Pos) → number_at m p ≡ None → Attends m time powers cells cells (λ q. q ≡ p)
-attend-nothing m w time powers cells p none = record {
+-- where no component stands nothing attends
+pub attend-idle : (m : Numbered) (time : ℕ) (powers : List ℕ) (cells : List Cell) (p : Pos) → role_at m.plan m.marks p ≡ None → Attends m time powers cells cells (λ q. q ≡ p)
+attend-idle m time powers cells p none = record {
   each = λ q. inl refl;
-  done = λ q h. sym (still_none m w time (reads_of m cells powers) q (held m cells nothing q) (ap (number_at m) h ∙ none));
+  done = λ q h. sym (attended_none time (role_at m.plan m.marks q) (first_at m.plan q) (reads_of m cells powers) q (held m cells nothing q) (ap (role_at m.plan m.marks) h ∙ none));
 }
+
+pub attend-nothing : (m : Numbered) → IsNumbered m → (time : ℕ) (powers : List ℕ) (cells : List Cell) (p : Pos) → number_at m p ≡ None → Attends m time powers cells cells (λ q. q ≡ p)
+attend-nothing m w time powers cells p none = attend-idle m time powers cells p (role_none m w p none)
 
 -- the things below i
 abbrev pub Below : Numbered → ℕ → Pos → Type 0
@@ -64,15 +68,28 @@ attends-start m time powers cells = record { each = λ p. inl refl; done = λ p 
     none : (n : ℕ) → n < 0 → ⊥
     none n h = omega arith
 
+-- each thing has attended, and nothing else has to
+pub all_or_nothing : (m : Numbered) → IsNumbered m → (time : ℕ) (powers : List ℕ) (cells : List Cell) (p : Pos) →
+    Below m (length m.spots) p ⊎ (after_attending m time (reads_of m cells powers) p (held m cells nothing p) ≡ held m cells nothing p)
+all_or_nothing m w time powers cells p = elim (number_cases m p) [
+  | inl none ↦ inr (still_none m w time (reads_of m cells powers) p (held m cells nothing p) none)
+  | inr n ↦ (let t = spot-there m w p n.0 n.1 in inl (n.0, t.0, sym t.1))
+]
+
 pub attends_all : (m : Numbered) → IsNumbered m → (time : ℕ) (powers : List ℕ) (old new : List Cell) → AreWithin m old → ArePowers m old powers → Attends m time powers old new (Below m (length m.spots)) →
     state_by m time new ≡ attend (circuit_of m) (state_by m time old)
-attends_all m w time powers old new within right a = all-attended m w time powers old new (Below m (length m.spots)) within right a rest
-  where
-    rest : (p : Pos) → Below m (length m.spots) p ⊎ (after_attending m time (reads_of m old powers) p (held m old nothing p) ≡ held m old nothing p)
-    rest p = elim (number_cases m p) [
-      | inl none ↦ inr (still_none m w time (reads_of m old powers) p (held m old nothing p) none)
-      | inr n ↦ (let t = spot-there m w p n.0 n.1 in inl (n.0, t.0, sym t.1))
-    ]
+attends_all m w time powers old new within right a = all-attended m w time powers old new (Below m (length m.spots)) within right a (all_or_nothing m w time powers old)
+
+pub still_all : (m : Numbered) → IsNumbered m → (time : ℕ) (powers : List ℕ) (old new : List Cell) → Attends m time powers old new (Below m (length m.spots)) → AreStill m new powers
+still_all m w time powers old new a = still-attended m time powers old new (Below m (length m.spots)) a (all_or_nothing m w time powers old)
+
+-- some attend, and then some more: so do all of either
+pub attends-with : (m : Numbered) (time : ℕ) (powers : List ℕ) (a b c : List Cell) (D E F : Pos → Type 0) → ((p : Pos) → F p → D p ⊎ E p) → Attends m time powers a b D → Attends m time powers b c E →
+    Attends m time powers a c F
+attends-with m time powers a b c D E F either f g = attends-fewer m time powers a c (λ p. D p ⊎ E p) F either (attends-then m time powers a b c D E f g)
+
+pub attends-empty : (m : Numbered) (time : ℕ) (powers : List ℕ) (cells : List Cell) (D : Pos → Type 0) → ((p : Pos) → D p → ⊥) → Attends m time powers cells cells D
+attends-empty m time powers cells D none = record { each = λ p. inl refl; done = λ p h. absurd (none p h) }
 
 -- the powers stay right
 pub powers-attends : (m : Numbered) (time : ℕ) (powers : List ℕ) (old new : List Cell) (D : Pos → Type 0) → Attends m time powers old new D → ArePowers m old powers → ArePowers m new powers

@@ -1,3 +1,4 @@
+pub mod Near
 pub mod Things
 pub mod Numbers
 pub mod WireThings

@@ -1,22 +1,27 @@
 -- What a running world is, and what it is seen as.
-use Rattle.std.specs.Prelude.{◌≡◌, ◌≤◌, ◌<◌, ◌^◌, ◌⊎◌, slice_index_or, ℕ, pos, length, map, Bool, true, false, List, Option, Some, None}
+use Rattle.std.specs.Prelude.{◌≡◌, ◌≢◌, ◌≤◌, ◌<◌, ◌^◌, ◌⊎◌, slice_index_or, ℕ, length, map, List, Option, Some, None}
 use Rattle.circuit.specs.declared.Pos.{Pos}
 use Rattle.circuit.specs.declared.Component.{Component}
 use Rattle.circuit.specs.declared.Readings.{Readings}
 use Rattle.circuit.specs.declared.Cell.{Cell}
 use Rattle.circuit.specs.Component.{top}
-use Rattle.circuit.specs.Circuit.{Circuit, State, IsFiringList, fire_all, outs, seen, attended_at}
-use Rattle.circuit.specs.Firing.{due_at}
+use Rattle.circuit.specs.Circuit.{Circuit, State, IsDue, IsFiringList, fire, fire_all, outs, seen, attended_at}
+use Rattle.cell_queue.specs.Held.{Holding, NoneNow}
 use Rattle.build.specs.declared.OutPlace.{OutPlace}
 use Rattle.build.specs.Plan.{Plan, entry, places}
 use Rattle.build.specs.Outputs.{outputs}
 use Rattle.build.specs.Roles.{role_at, first_at}
 use Rattle.wire_net.specs.Net.{IsRight}
+use Rattle.wire_net.specs.Noted.{Waved, IsNoted}
 use Rattle.power_rules.specs.Readings.{readings_at}
 use Rattle.power_rules.specs.RightWires.{level_with}
 use Rattle.power_rules.specs.World.{world_circuit}
 use Rattle.world_engine.specs.Things.{Numbered, IsNumbered, held, nothing, state_by}
-use Rattle.world_engine.specs.WireThings.{thing_cells}
+use Rattle.world_engine.specs.WireThings.{thing_cells, feeders_in}
+use Rattle.world_engine.specs.Near.{IsNearby, origin}
+
+abbrev pub spot : Numbered → ℕ → Pos
+spot m n = slice_index_or m.spots n origin
 
 -- the build that runs, its marks, the time, and what each cell of the box holds
 pub record Running : Type 0 where
@@ -32,6 +37,10 @@ state_in w = record { time = w.time; cells = entry w.plan w.cells nothing }
 -- what it is seen as where its things hold these cells
 abbrev pub seen_as : Numbered → ℕ → List Cell → Running
 seen_as m time cells = record { plan = m.plan; marks = m.marks; time = time; cells = map (held m cells nothing) (places m.plan) }
+
+-- the state where the things hold these cells
+abbrev pub state_of : Numbered → Holding → State Pos
+state_of m h = state_by m h.time h.cells
 
 -- the world as a circuit
 abbrev pub circuit_of : Numbered → Circuit Pos
@@ -53,16 +62,6 @@ ArePowers m cells powers = IsRight (thing_cells m (given_by m cells)) powers
 abbrev pub AreWithin : Numbered → List Cell → Type 0
 AreWithin m cells = (p : Pos) (component : Component) → role_at m.plan m.marks p ≡ Some component → (held m cells nothing p).value ≤ top component
 
--- There is a cell and a power for each thing. The values are within their bounds, the powers are right, and what is shown is that of the build.
-pub record IsRunning (m : Numbered) (outs : List OutPlace) (cells : List Cell) (powers : List ℕ) (time : ℕ) : Type 0 where
-  pub numbered : IsNumbered m
-  pub cells_whole : length cells ≡ length m.spots
-  pub powers_whole : length powers ≡ length m.spots
-  pub shown : outs ≡ outputs m.plan m.marks
-  pub within : AreWithin m cells
-  pub solved : ArePowers m cells powers
-  pub early : time ≤ 2 ^ 62
-
 -- ---- attending
 
 -- what a place holds after it has attended to this
@@ -75,20 +74,42 @@ pub record Attends (m : Numbered) (time : ℕ) (powers : List ℕ) (old new : Li
       ⊎ (held m new nothing p ≡ after_attending m time (reads_of m old powers) p (held m old nothing p))
   pub done : (p : Pos) → Done p → held m new nothing p ≡ after_attending m time (reads_of m old powers) p (held m old nothing p)
 
+-- attending changes nothing at a place, at whatever time
+abbrev pub IsStill : Numbered → List Cell → List ℕ → Pos → Type 0
+IsStill m cells powers p = (time : ℕ) → after_attending m time (reads_of m cells powers) p (held m cells nothing p) ≡ held m cells nothing p
+
+pub record AreStill (m : Numbered) (cells : List Cell) (powers : List ℕ) : Type 0 where
+  pub each : (p : Pos) → IsStill m cells powers p
+
+-- at each place but one
+pub record OthersStill (m : Numbered) (cells : List Cell) (powers : List ℕ) (there : Pos) : Type 0 where
+  pub each : (p : Pos) → p ≢ there → IsStill m cells powers p
+
+-- a place within two steps of one of these things
+abbrev pub IsNearOne : Numbered → (ℕ → Type 0) → Pos → Type 0
+IsNearOne m Listed p = (n : ℕ) × Listed n × IsNearby (spot m n) p
+
+-- what may read something else than before: a place near the one that changed, or near a wire whose power changed
+abbrev pub IsReached : Numbered → Pos → Waved → Pos → Type 0
+IsReached m there waves p = IsNearby there p ⊎ IsNearOne m (IsNoted waves) p
+
 -- ---- what fires next
 
-abbrev pub spot : Numbered → ℕ → Pos
-spot m n = slice_index_or m.spots n (record { x = pos 0; y = pos 0; z = pos 0 })
+-- the next firing of a tick
+pub record FiresOne (C : Circuit Pos) (old new : State Pos) (key : Pos) : Type 0 where
+  pub due : IsDue C old key
+  pub least : (other : Pos) → IsDue C old other → (old.cells key).priority ≤ (old.cells other).priority
+  pub after : new ≡ fire C old key
 
--- the component of a thing has a tick that is due at the time
-unfoldable pub due_in : Numbered → ℕ → List Cell → ℕ → Bool
-due_in m time cells n = due_at (role_at m.plan m.marks (spot m n)) (slice_index_or cells n nothing) time
+-- nothing is due, and nothing fires
+pub record FiresNone (C : Circuit Pos) (old new : State Pos) : Type 0 where
+  pub none : (key : Pos) → IsDue C old key → ⊥
+  pub same : new ≡ old
 
--- of the things below n, this one is due, and no due one has a lesser priority number; none is due where there is none
-abbrev pub IsNext : Numbered → ℕ → List Cell → ℕ → Option ℕ → Type 0
-IsNext m time cells n None = (k : ℕ) → k < n → due_in m time cells k ≡ false
-IsNext m time cells n (Some i) = (i < n) × (due_in m time cells i ≡ true)
-    × ((k : ℕ) → k < n → due_in m time cells k ≡ true → (slice_index_or cells i nothing).priority ≤ (slice_index_or cells k nothing).priority)
+-- the thing of a number fires, if there is one
+abbrev pub MayFire : Numbered → State Pos → State Pos → Option ℕ → Type 0
+MayFire m old new None = FiresNone (circuit_of m) old new
+MayFire m old new (Some n) = (n < length m.spots) × FiresOne (circuit_of m) old new (spot m n)
 
 -- from the old state all that is due fires, in the order of a firing list, and the new state is that after it
 pub record FiresAll (C : Circuit Pos) (old new : State Pos) : Type 0 where
@@ -99,3 +120,32 @@ pub record FiresAll (C : Circuit Pos) (old new : State Pos) : Type 0 where
 -- what an output shows, at whatever time
 abbrev pub shown_of : Numbered → List Cell → OutPlace → ℕ
 shown_of m cells o = seen (circuit_of m) (state_by m 0 cells) o.pos
+
+-- ---- a world that runs
+
+-- no tick is pending where no component stands
+abbrev pub AreIdle : Numbered → List Cell → Type 0
+AreIdle m cells = (p : Pos) → role_at m.plan m.marks p ≡ None → (held m cells nothing p).due ≡ 0
+
+-- There is a cell for each thing, and no value is above its bound.
+pub record IsHolding (m : Numbered) (h : Holding) : Type 0 where
+  pub whole : length h.cells ≡ length m.spots
+  pub within : AreWithin m h.cells
+  pub early : h.time < 2 ^ 63
+
+-- There is a power for each thing, and the powers are right.
+pub record IsPlaying (m : Numbered) (h : Holding) (powers : List ℕ) (feeders : List (List ℕ)) : Type 0 where
+  pub holding : IsHolding m h
+  pub powers_whole : length powers ≡ length m.spots
+  pub solved : ArePowers m h.cells powers
+  pub made : feeders ≡ feeders_in m
+  pub idle : AreIdle m h.cells
+
+-- All have attended, nothing is due, and what is shown is that of the build.
+pub record IsRunning (m : Numbered) (outs : List OutPlace) (h : Holding) (powers : List ℕ) (feeders : List (List ℕ)) : Type 0 where
+  pub numbered : IsNumbered m
+  pub shown : outs ≡ outputs m.plan m.marks
+  pub playing : IsPlaying m h powers feeders
+  pub still : AreStill m h.cells powers
+  pub none : NoneNow h
+  pub early : h.time ≤ 2 ^ 62

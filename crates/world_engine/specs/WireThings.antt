@@ -9,7 +9,7 @@ use Rattle.std.proofs.lemmas.Simd.{map-map}
 use Rattle.std.proofs.Math.ListN.{get_or-eq_default}
 use Rattle.circuit.specs.declared.Pos.{Pos}
 use Rattle.build.specs.Plan.{entry}
-use Rattle.wire_net.specs.Net.{Cell, no_cell, cell_at, greatest, power_under, IsBounded, IsClosed, IsRight}
+use Rattle.wire_net.specs.Net.{Cell, no_cell, cell_at, greatest, power_under, feeders_of, IsBounded, IsClosed, IsRight}
 use Rattle.wire_net.specs.Laws.{right-at, right_bounded}
 use Rattle.wire_shape.specs.Shape.{wire_at}
 use Rattle.wire_shape.specs.Feeders.{feeders}
@@ -24,6 +24,10 @@ use Rattle.world_engine.specs.Numbers.{number_there, number_wire, number_cases, 
 abbrev pub number_of : Numbered → Pos → ℕ
 number_of m p = option_map_or (λ (n : ℕ). n) (number_at m p) 0
 
+-- the number of a thing, another one where none stands
+abbrev pub number_or : Numbered → ℕ → Pos → ℕ
+number_or m other p = option_map_or (λ (n : ℕ). n) (number_at m p) other
+
 abbrev pub thing_cell : Numbered → (Pos → ℕ) → Pos → Cell
 thing_cell m given p =
     if wire_at m.plan p
@@ -32,6 +36,10 @@ thing_cell m given p =
 
 abbrev pub thing_cells : Numbered → (Pos → ℕ) → List Cell
 thing_cells m given = map (thing_cell m given) m.spots
+
+-- the feeders of all things, whatever is given
+abbrev pub feeders_in : Numbered → List (List ℕ)
+feeders_in m = feeders_of (thing_cells m (λ p. 0))
 
 pub length-things : (m : Numbered) (given : Pos → ℕ) → length (thing_cells m given) ≡ length m.spots
 length-things m given = length-map m.spots (thing_cell m given)

@@ -1,216 +1,137 @@
 //! What happens in one click and in one tick.
 
-ghost use Rattle.std.specs.Prelude.{◌≡◌, ◌≤◌, ◌<◌, ◌+◌, ◌^◌, ℕ, OnOk, OnErr, Option, length, map};
-ghost use Rattle.circuit.specs.declared.Pos.{Pos};
+ghost use Rattle.std.specs.Prelude.{◌≡◌, ◌<◌, OnOk, OnErr, None, length, map};
 ghost use Rattle.circuit.specs.Bounds.{BoundedAt};
-ghost use Rattle.circuit.specs.Circuit.{attend, fired_in, fire, put, seen, start, Clicks};
+ghost use Rattle.circuit.specs.Circuit.{attend, fired_in, put, seen, start, Clicks};
 ghost use Rattle.circuit.specs.Taken.{Takes};
-ghost use Rattle.circuit.specs.Firing.{due_at};
 ghost use Rattle.build.specs.Roles.{role_at, stored};
+ghost use Rattle.cell_queue.specs.Held.{CanFollow, NoneNow, cell_of};
 ghost use Rattle.world_engine.specs.Things.{state_by};
-ghost use Rattle.world_engine.specs.Running.{circuit_of, seen_as, state_in, spot, AreWithin, ArePowers, Attends, due_in, IsNext, FiresAll, shown_of};
+ghost use Rattle.world_engine.specs.Running.{circuit_of, state_of, spot, AreIdle, AreStill, OthersStill, ArePowers, IsHolding, IsPlaying, FiresAll, MayFire, shown_of};
 
-use crate::sight::{attended, cell_at, fired, shown};
+use crate::attend::{attend_all, attend_near, attend_near_noted};
+use crate::near::near_numbers;
+use crate::sight::{cell_at, fired, shown};
 use crate::things::Things;
-use crate::wires::solve;
+use crate::wires::{resolve, solve};
 use build::{ClickRefusal, OutPlace};
-use circuit::{Cell, Click, Component, Pos};
-
-// What stands at a place attends.
-fn attend_at(things: &Things, time: u64, powers: &[u8], cells: &mut [Cell], pos: Pos)
-    requires early { time < 2 ^ 63 }
-    requires cells_whole { length cells.old ≡ length things.now.spots }
-    requires powers_whole { length powers.now ≡ length things.now.spots }
-    requires within { AreWithin things.now cells.old }
-    ensures attends { Attends things.now time powers.now cells.old cells.new (λ p. p ≡ pos) }
-    ensures within { AreWithin things.now cells.new }
-{
-    let _ = things.count();
-    if let Some(number) = things.number(pos) {
-        cells[number] = attended(things, time, cells, powers, pos);
-    }
-}
-
-// All things attend.
-fn attend_all(things: &Things, time: u64, powers: &[u8], cells: &mut [Cell])
-    requires early { time < 2 ^ 63 }
-    requires cells_whole { length cells.old ≡ length things.now.spots }
-    requires powers_whole { length powers.now ≡ length things.now.spots }
-    requires within { AreWithin things.now cells.old }
-    requires powers { ArePowers things.now cells.old powers.now }
-    ensures attended { state_by things.now time cells.new ≡ attend (circuit_of things.now) (state_by things.now time cells.old) }
-    ensures within { AreWithin things.now cells.new }
-    ensures powers { ArePowers things.now cells.new powers.now }
-{
-    for number in 0..things.count() {
-        attend_at(things, time, powers, cells, things.spot(number));
-    }
-}
+use cell_queue::Cells;
+use circuit::{Cell, Click, Pos};
+use wire_net::Waves;
 
 /// From what the build stores the wires take their powers, and all things attend.
-pub(crate) fn begin(things: &Things, powers: &mut [u8], cells: &mut [Cell])
-    requires cells_whole { length cells.old ≡ length things.now.spots }
+pub(crate) fn begin(things: &Things, powers: &mut [u8], cells: &mut Cells)
+    requires cells_whole { length cells.old.cells ≡ length things.now.spots }
     requires powers_whole { length powers.old ≡ length things.now.spots }
-    requires stored { state_by things.now 0 cells.old ≡ record { time = 0; cells = stored things.now.plan things.now.marks } }
-    ensures start { state_in (seen_as things.now 0 cells.new) ≡ start (circuit_of things.now) }
-    ensures within { AreWithin things.now cells.new }
-    ensures powers { ArePowers things.now cells.new powers.new }
+    requires stored { state_of things.now cells.old ≡ record { time = 0; cells = stored things.now.plan things.now.marks } }
+    ensures start { state_of things.now cells.new ≡ start (circuit_of things.now) }
+    ensures holding { IsHolding things.now cells.new }
+    ensures powers { ArePowers things.now cells.new.cells powers.new }
+    ensures still { AreStill things.now cells.new.cells powers.new }
+    ensures idle { AreIdle things.now cells.new.cells }
 {
     let _ = things.count();
     solve(things, cells, powers);
-    attend_all(things, 0, powers, cells);
+    attend_all(things, powers, cells);
 }
 
-// A thing holds another cell, the wires take their powers by it, and all components attend.
+// A thing holds another cell, the wires take their powers by it, and all components attend. No
+// other ones have to than those near the thing and near a wire whose power changed, since the
+// others read what they read before.
 fn settle(
     things: &Things,
-    time: u64,
-    cells: &mut [Cell],
+    cells: &mut Cells,
     powers: &mut [u8],
+    waves: &mut Waves,
     number: usize,
     cell: Cell,
 )
-    requires early { time < 2 ^ 63 }
     requires inside { number < length things.now.spots }
-    requires cells_whole { length cells.old ≡ length things.now.spots }
-    requires powers_whole { length powers.old ≡ length things.now.spots }
-    requires within { AreWithin things.now cells.old }
+    requires playing { IsPlaying things.now cells.old powers.old waves.old.feeders }
+    requires still { OthersStill things.now cells.old.cells powers.old (spot things.now number) }
+    requires follows { CanFollow cells.old.time (cell_of cells.old.cells number) cell }
     requires bounded { BoundedAt (role_at things.now.plan things.now.marks (spot things.now number)) cell }
-    ensures settled { state_by things.now time cells.new ≡ attend (circuit_of things.now) (put (circuit_of things.now) (state_by things.now time cells.old) (spot things.now number) cell) }
-    ensures within { AreWithin things.now cells.new }
-    ensures powers { ArePowers things.now cells.new powers.new }
+    requires idle { role_at things.now.plan things.now.marks (spot things.now number) ≡ None → cell.due ≡ 0 }
+    ensures settled { state_of things.now cells.new ≡ attend (circuit_of things.now) (put (circuit_of things.now) (state_of things.now cells.old) (spot things.now number) cell) }
+    ensures playing { IsPlaying things.now cells.new powers.new waves.new.feeders }
+    ensures still { AreStill things.now cells.new.cells powers.new }
 {
     let _ = things.count();
-    cells[number] = cell;
-    solve(things, cells, powers);
-    attend_all(things, time, powers, cells);
+    cells.hold(number, cell);
+    let changed = near_numbers(things, number);
+    resolve(things, cells, powers, &changed, waves);
+    attend_near(things, powers, cells, number);
+    attend_near_noted(things, powers, cells, waves);
 }
 
-// A thing fires, and all attend.
-fn fire(things: &Things, time: u64, cells: &mut [Cell], powers: &mut [u8], number: usize)
-    requires early { time < 2 ^ 63 }
-    requires inside { number < length things.now.spots }
-    requires cells_whole { length cells.old ≡ length things.now.spots }
-    requires powers_whole { length powers.old ≡ length things.now.spots }
-    requires within { AreWithin things.now cells.old }
-    requires powers { ArePowers things.now cells.old powers.old }
-    ensures fired { state_by things.now time cells.new ≡ fire (circuit_of things.now) (state_by things.now time cells.old) (spot things.now number) }
-    ensures within { AreWithin things.now cells.new }
-    ensures powers { ArePowers things.now cells.new powers.new }
-{
-    let cell = fired_from(things, time, cells, powers, things.spot(number));
-    settle(things, time, cells, powers, number, cell);
-}
-
-fn fired_from(things: &Things, time: u64, cells: &[Cell], powers: &[u8], pos: Pos) -> Cell
-    requires early { time < 2 ^ 63 }
-    requires cells_whole { length cells.now ≡ length things.now.spots }
+// What a place holds after it has fired.
+fn fired_from(things: &Things, cells: &Cells, powers: &[u8], pos: Pos) -> Cell
+    requires holding { IsHolding things.now cells.now }
     requires powers_whole { length powers.now ≡ length things.now.spots }
-    requires within { AreWithin things.now cells.now }
-    requires powers { ArePowers things.now cells.now powers.now }
-    ensures fired { result ≡ fired_in (circuit_of things.now) (state_by things.now time cells.now) pos }
+    requires powers { ArePowers things.now cells.now.cells powers.now }
+    ensures fired { result ≡ fired_in (circuit_of things.now) (state_of things.now cells.now) pos }
     ensures bounded { BoundedAt (role_at things.now.plan things.now.marks pos) result }
 {
     let _ = things.count();
-    fired(things, time, cells, powers, pos)
+    fired(things, cells, powers, pos)
 }
 
-// Whether a component has a tick that is due.
-fn is_due_cell(component: Option<Component>, cell: Cell, time: u64) -> bool
-    ensures { result ≡ due_at component cell time }
-{
-    match component {
-        Some(_) => cell.due != 0 && cell.due == time,
-        None => false,
-    }
-}
-
-#[tactic(auto, unfolding(crate::specs::Running::due_in))]
-fn is_due(things: &Things, time: u64, cells: &[Cell], number: usize) -> bool
-    requires inside { number < length things.now.spots }
-    requires whole { length cells.now ≡ length things.now.spots }
-    ensures { result ≡ due_in things.now time cells.now number }
-{
-    is_due_cell(things.role(things.spot(number)), cells[number], time)
-}
-
-// The thing that fires next of those up to this one.
-fn next_with(
+// The thing that fires next, if something is due, fires, and all attend.
+fn fire_next(
     things: &Things,
-    time: u64,
-    cells: &[Cell],
-    least: Option<usize>,
-    number: usize,
+    cells: &mut Cells,
+    powers: &mut [u8],
+    waves: &mut Waves,
 ) -> Option<usize>
-    requires inside { number < length things.now.spots }
-    requires whole { length cells.now ≡ length things.now.spots }
-    requires least { IsNext things.now time cells.now number least }
-    ensures { IsNext things.now time cells.now (number + 1) result }
+    requires playing { IsPlaying things.now cells.old powers.old waves.old.feeders }
+    requires still { AreStill things.now cells.old.cells powers.old }
+    ensures state { MayFire things.now (state_of things.now cells.old) (state_of things.now cells.new) result }
+    ensures playing { IsPlaying things.now cells.new powers.new waves.new.feeders }
+    ensures still { AreStill things.now cells.new.cells powers.new }
 {
-    if !is_due(things, time, cells, number) {
-        return least;
-    }
-    match least {
-        Some(first) => {
-            if cells[first].priority <= cells[number].priority {
-                Some(first)
-            } else {
-                Some(number)
-            }
-        }
-        None => Some(number),
-    }
-}
-
-// The thing that fires next: none with a due tick has a lesser priority number.
-fn next_due(things: &Things, time: u64, cells: &[Cell]) -> Option<usize>
-    requires { length cells.now ≡ length things.now.spots }
-    ensures { IsNext things.now time cells.now (length things.now.spots) result }
-{
-    let mut least = None;
-    for number in 0..things.count() {
-        least = next_with(things, time, cells, least, number);
-    }
-    least
+    let _ = things.count();
+    let Some(number) = cells.take_due() else {
+        return None;
+    };
+    let cell = fired_from(things, cells, powers, things.spot(number));
+    settle(things, cells, powers, waves, number, cell);
+    Some(number)
 }
 
 /// Fires what is due, one by one, by rising priority.
-pub(crate) fn fire_due(things: &Things, time: u64, cells: &mut [Cell], powers: &mut [u8])
-    requires early { time < 2 ^ 63 }
-    requires late { 0 < time }
-    requires cells_whole { length cells.old ≡ length things.now.spots }
-    requires powers_whole { length powers.old ≡ length things.now.spots }
-    requires within { AreWithin things.now cells.old }
-    requires powers { ArePowers things.now cells.old powers.old }
-    ensures fired { FiresAll (circuit_of things.now) (state_in (seen_as things.now time cells.old)) (state_in (seen_as things.now time cells.new)) }
-    ensures within { AreWithin things.now cells.new }
-    ensures powers { ArePowers things.now cells.new powers.new }
+pub(crate) fn fire_due(things: &Things, cells: &mut Cells, powers: &mut [u8], waves: &mut Waves)
+    requires late { 0 < cells.old.time }
+    requires playing { IsPlaying things.now cells.old powers.old waves.old.feeders }
+    requires still { AreStill things.now cells.old.cells powers.old }
+    ensures fired { FiresAll (circuit_of things.now) (state_of things.now cells.old) (state_of things.now cells.new) }
+    ensures time { cells.new.time ≡ cells.old.time }
+    ensures playing { IsPlaying things.now cells.new powers.new waves.new.feeders }
+    ensures still { AreStill things.now cells.new.cells powers.new }
+    ensures none { NoneNow cells.new }
 {
     let _ = things.count();
-    while let Some(number) = next_due(things, time, cells) {
-        fire(things, time, cells, powers, number);
-    }
+    while let Some(_number) = fire_next(things, cells, powers, waves) {}
 }
 
 /// What a place takes of a click, and then all attend.
 pub(crate) fn take_click(
     things: &Things,
-    time: u64,
-    cells: &mut [Cell],
+    cells: &mut Cells,
     powers: &mut [u8],
+    waves: &mut Waves,
     pos: Pos,
     click: Click,
 ) -> Result<(), ClickRefusal>
-    requires early { time < 2 ^ 63 }
-    requires cells_whole { length cells.old ≡ length things.now.spots }
-    requires powers_whole { length powers.old ≡ length things.now.spots }
-    requires within { AreWithin things.now cells.old }
-    requires powers { ArePowers things.now cells.old powers.old }
-    ensures taken { OnOk result (Clicks (circuit_of things.now) pos click (state_in (seen_as things.now time cells.old)) (state_in (seen_as things.now time cells.new))) }
+    requires playing { IsPlaying things.now cells.old powers.old waves.old.feeders }
+    requires still { AreStill things.now cells.old.cells powers.old }
+    requires none { NoneNow cells.old }
+    ensures taken { OnOk result (Clicks (circuit_of things.now) pos click (state_of things.now cells.old) (state_of things.now cells.new)) }
     ensures refused { OnErr result (Takes (circuit_of things.now) pos click → ⊥) }
     ensures same { OnErr result (cells.new ≡ cells.old) }
-    ensures within { AreWithin things.now cells.new }
-    ensures powers { ArePowers things.now cells.new powers.new }
+    ensures time { cells.new.time ≡ cells.old.time }
+    ensures playing { IsPlaying things.now cells.new powers.new waves.new.feeders }
+    ensures still { AreStill things.now cells.new.cells powers.new }
+    ensures none { NoneNow cells.new }
 {
     let _ = things.count();
     let Some(number) = things.number(pos) else {
@@ -223,19 +144,19 @@ pub(crate) fn take_click(
     match circuit::clicked(component, click, cell.value) {
         None => Err(ClickRefusal::NotClickable),
         Some(value) => {
-            settle(things, time, cells, powers, number, Cell { value, ..cell });
+            let clicked = Cell { value, ..cell };
+            settle(things, cells, powers, waves, number, clicked);
             Ok(())
         }
     }
 }
 
 // What a place shows.
-fn shown_at(things: &Things, cells: &[Cell], powers: &[u8], pos: Pos) -> u8
-    requires cells_whole { length cells.now ≡ length things.now.spots }
+fn shown_at(things: &Things, cells: &Cells, powers: &[u8], pos: Pos) -> u8
+    requires holding { IsHolding things.now cells.now }
     requires powers_whole { length powers.now ≡ length things.now.spots }
-    requires within { AreWithin things.now cells.now }
-    requires powers { ArePowers things.now cells.now powers.now }
-    ensures { result ≡ seen (circuit_of things.now) (state_by things.now 0 cells.now) pos }
+    requires powers { ArePowers things.now cells.now.cells powers.now }
+    ensures { result ≡ seen (circuit_of things.now) (state_by things.now 0 cells.now.cells) pos }
 {
     let _ = things.count();
     shown(things, cells, powers, pos)
@@ -244,17 +165,16 @@ fn shown_at(things: &Things, cells: &[Cell], powers: &[u8], pos: Pos) -> u8
 /// What some places show.
 pub(crate) fn view_into(
     things: &Things,
-    cells: &[Cell],
+    cells: &Cells,
     powers: &[u8],
     places: &[OutPlace],
     into: &mut [u8],
 )
-    requires cells_whole { length cells.now ≡ length things.now.spots }
+    requires holding { IsHolding things.now cells.now }
     requires powers_whole { length powers.now ≡ length things.now.spots }
-    requires within { AreWithin things.now cells.now }
-    requires powers { ArePowers things.now cells.now powers.now }
+    requires powers { ArePowers things.now cells.now.cells powers.now }
     requires room { length into.old ≡ length places.now }
-    ensures { into.new ≡ map (shown_of things.now cells.now) places.now }
+    ensures { into.new ≡ map (shown_of things.now cells.now.cells) places.now }
 {
     for (index, place) in places.iter().enumerate() {
         into[index] = shown_at(things, cells, powers, place.pos);

@@ -1,7 +1,9 @@
 //! A build that runs: its state after the start, after each click and after each tick.
 #![tactic(auto)]
 
+mod attend;
 mod events;
+mod near;
 mod sight;
 mod stored;
 #[cfg(test)]

@@ -1,6 +1,7 @@
 //! What a build holds before the start.
 
-ghost use Rattle.std.specs.Prelude.{◌≡◌, IfOk, length};
+ghost use Rattle.std.specs.Prelude.{◌≡◌, All, IfOk, length};
+ghost use Rattle.cell_queue.specs.Held.{IsSoon};
 ghost use Rattle.build.specs.Place.{same_place};
 ghost use Rattle.build.specs.Roles.{waiting_at, cell_with, stored};
 ghost use Rattle.world_engine.specs.Things.{state_by};
@@ -68,6 +69,7 @@ fn stored(things: &Things, pos: Pos) -> Cell
 pub(crate) fn stored_cells(alloc: Global, things: &Things) -> Result<Vec<Cell>, NoMemory>
     ensures whole { IfOk result (λ cells. length cells.items ≡ length things.now.spots) }
     ensures stored { IfOk result (λ cells. state_by things.now 0 cells.items ≡ record { time = 0; cells = stored things.now.plan things.now.marks }) }
+    ensures soon { IfOk result (λ cells. All (IsSoon 0) cells.items) }
 {
     let mut cells = Vec::with_capacity(alloc, things.count())?;
     for number in 0..things.count() {

@@ -9,20 +9,23 @@ ghost use Rattle.power_rules.specs.World.{world_circuit};
 use crate::events::{begin, fire_due, take_click, view_into};
 use crate::stored::stored_cells;
 use crate::things::Things;
+use crate::wires::new_waves;
 use build::{Build, ClickRefusal, Marks, OutPlace};
-use circuit::{Cell, Click, Pos};
+use cell_queue::Cells;
+use circuit::{Click, Pos};
 use rp_text::NoMemory;
 use std::alloc::Global;
 use std::marker::Model;
+use wire_net::Waves;
 
 /// A build that runs.
 #[derive(Drop)]
 pub struct World {
     things: Things,
     places: Vec<OutPlace>,
-    cells: Vec<Cell>,
+    cells: Cells,
     powers: Vec<u8>,
-    time: u64,
+    waves: Waves,
 }
 
 impl Model for World {
@@ -30,9 +33,9 @@ impl Model for World {
 
     ghost Value = { Running };
 
-    ghost view = { λ w. seen_as w.things w.time w.cells.items };
+    ghost view = { λ w. seen_as w.things w.cells.time w.cells.cells };
 
-    ghost invariant = { λ w. IsRunning w.things w.places.items w.cells.items w.powers.items w.time };
+    ghost invariant = { λ w. IsRunning w.things w.places.items w.cells w.powers.items w.waves.feeders };
 }
 
 impl World {
@@ -47,15 +50,16 @@ impl World {
     {
         let things = Things::new(alloc, build, marks)?;
         let places = things.outputs(alloc)?;
-        let mut cells = stored_cells(alloc, &things)?;
+        let mut cells = Cells::new(alloc, stored_cells(alloc, &things)?)?;
         let mut powers = vec![in alloc; 0u8; things.count()]?;
         begin(&things, &mut powers, &mut cells);
+        let waves = new_waves(alloc, &things, &cells)?;
         Ok(World {
             things,
             places,
             cells,
             powers,
-            time: 0,
+            waves,
         })
     }
 
@@ -71,9 +75,9 @@ impl World {
     {
         take_click(
             &self.things,
-            self.time,
             &mut self.cells,
             &mut self.powers,
+            &mut self.waves,
             pos,
             click,
         )
@@ -87,15 +91,20 @@ impl World {
         ensures time { self.new.time ≡ self.old.time + 1 }
         ensures ticked { (fires : List Pos) × Ticks (world_circuit self.old.plan self.old.marks) fires (state_in self.old) (state_in self.new) }
     {
-        self.time += 1;
-        fire_due(&self.things, self.time, &mut self.cells, &mut self.powers);
+        self.cells.advance();
+        fire_due(
+            &self.things,
+            &mut self.cells,
+            &mut self.powers,
+            &mut self.waves,
+        );
     }
 
     /// The number of ticks since the start.
     pub fn time(&self) -> u64
         ensures { result ≡ self.now.time }
     {
-        self.time
+        self.cells.now()
     }
 
     /// The number of outputs.

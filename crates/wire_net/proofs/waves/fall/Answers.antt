@@ -1,12 +1,15 @@
 use Rattle.std.proofs.Common.{arith, ◌≡◌, ◌<◌, ◌+◌, ◌∙◌, ap, refl, length, slice_index, ℕ, []}
 use Rattle.wire_net.specs.Listed.{list_at}
 use Rattle.wire_net.proofs.Lists.{at-default, length-fed, fed-below}
-use Rattle.wire_net.proofs.Falls.{fall_start, fall_next, fall_step, fell-longer}
+use Rattle.wire_net.specs.WaveSteps.{Has}
+use Rattle.wire_net.proofs.Notes.{notes_none, notes_then, notes_fell}
+use Rattle.wire_net.proofs.Falls.{fall_start, fall_next, fall_step, fall_done, fell-longer}
 use Rattle.wire_net.proofs.waves.fall.Goals as goal
 
 pub loop-cell-init : goal.loop-cell-init
 loop-cell-init g c = record {
   falling = fall_start (g.N.Net.net c.args.net.now) c.args.changed.now c.args.powers.now c.args.fallen.now.items c.requires.right c.requires.empty;
+  noted = notes_none c.args.powers.now (Has c.args.fallen.now.items);
   room = c.requires.room;
 }
 
@@ -15,6 +18,8 @@ loop-cell-preserved g c = record {
   falling = fall_step (g.N.Net.net c.args.net.now) c.args.changed.now c.loop-cell.powers c.loop-cell.fallen.items 0 c.args.changed.now c.loop-cell.cell-index
       (slice_index c.args.changed.now c.loop-cell.cell-index) c.loop-cell.invariant.falling refl (c.requires.cells c.loop-cell.cell-index (omega arith)) (omega arith)
       c.let_fall.new.powers c.let_fall.new.fallen.items c.let_fall.ensures.step;
+  noted = notes_then c.args.powers.now c.loop-cell.powers c.let_fall.new.powers (Has c.args.fallen.now.items) (Has c.loop-cell.fallen.items) (Has c.let_fall.new.fallen.items) c.loop-cell.invariant.noted
+      (notes_fell (g.N.Net.net c.args.net.now) c.loop-cell.powers c.loop-cell.fallen.items (slice_index c.args.changed.now c.loop-cell.cell-index) c.let_fall.new.powers c.let_fall.new.fallen.items c.let_fall.ensures.step);
   room = omega (arith, c.loop-cell.invariant.room, c.let_fall.ensures.room);
 }
 
@@ -32,6 +37,7 @@ loop-cell-2-init g c =
     record {
       falling = rw items (fall_next (g.N.Net.net c.args.net.now) c.args.changed.now c.loop-next.powers c.loop-next.fallen.items c.loop-next.next [] 0
           c.args.feeders.now.lists c.args.fed.now.lists c.loop-next.invariant.falling (omega arith) c.requires.lists c.requires.turned);
+      noted = notes_none c.loop-next.powers (Has c.loop-next.fallen.items);
       short = omega (arith, short);
       room = c.loop-next.invariant.room;
     }
@@ -52,6 +58,9 @@ loop-cell-2-preserved g c =
       falling = fall_step (g.N.Net.net c.args.net.now) c.args.changed.now c.loop-cell-2.powers c.loop-cell-2.fallen.items (c.loop-next.next + 1) c.list-cell-items.result.now c.loop-cell-2.cell-index
           (slice_index c.list-cell-items.result.now c.loop-cell-2.cell-index) c.loop-cell-2.invariant.falling refl inside c.loop-cell-2.invariant.short
           c.let_fall-in-loop-cell-2.new.powers c.let_fall-in-loop-cell-2.new.fallen.items c.let_fall-in-loop-cell-2.ensures.step;
+      noted = notes_then c.loop-next.powers c.loop-cell-2.powers c.let_fall-in-loop-cell-2.new.powers (Has c.loop-next.fallen.items) (Has c.loop-cell-2.fallen.items) (Has c.let_fall-in-loop-cell-2.new.fallen.items) c.loop-cell-2.invariant.noted
+          (notes_fell (g.N.Net.net c.args.net.now) c.loop-cell-2.powers c.loop-cell-2.fallen.items (slice_index c.list-cell-items.result.now c.loop-cell-2.cell-index)
+          c.let_fall-in-loop-cell-2.new.powers c.let_fall-in-loop-cell-2.new.fallen.items c.let_fall-in-loop-cell-2.ensures.step);
       short = omega (
         arith,
         c.loop-cell-2.invariant.short,
@@ -60,3 +69,14 @@ loop-cell-2-preserved g c =
       );
       room = omega (arith, c.loop-cell-2.invariant.room, c.let_fall-in-loop-cell-2.ensures.room);
     }
+
+pub loop-next-preserved : goal.loop-next-preserved
+loop-next-preserved g c = record {
+  falling = fall_done (g.N.Net.net c.args.net.now) c.args.changed.now c.loop-cell-2.powers c.loop-cell-2.fallen.items (c.loop-next.next + 1) c.list-cell-items.result.now c.loop-cell-2.cell-index c.loop-cell-2.invariant.falling (omega arith);
+  noted = notes_then c.loop-cell.powers c.loop-next.powers c.loop-cell-2.powers (Has c.loop-cell.fallen.items) (Has c.loop-next.fallen.items) (Has c.loop-cell-2.fallen.items) c.loop-next.invariant.noted c.loop-cell-2.invariant.noted;
+  short = c.loop-cell-2.invariant.short;
+  room = c.loop-cell-2.invariant.room;
+}
+
+pub returns-clause-noted : goal.returns-clause-noted
+returns-clause-noted g c = notes_then c.args.powers.now c.loop-cell.powers c.loop-next.powers (Has c.args.fallen.now.items) (Has c.loop-cell.fallen.items) (Has c.loop-next.fallen.items) c.loop-cell.invariant.noted c.loop-next.invariant.noted

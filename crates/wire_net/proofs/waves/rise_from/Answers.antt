@@ -2,6 +2,8 @@ use Rattle.std.proofs.Common.{arith, ◌≡◌, ◌<◌, ◌≤◌, ◌+◌, ◌
 use Rattle.wire_net.specs.Listed.{list_at}
 use Rattle.wire_net.specs.WaveSteps.{Nothing, Later}
 use Rattle.wire_net.proofs.Lists.{later-next, fed-below}
+use Rattle.wire_net.specs.Noted.{InSome}
+use Rattle.wire_net.proofs.Notes.{notes_none, notes_then, notes_rose}
 use Rattle.wire_net.proofs.Rises.{rise_next, rise_skip, rise_step, rise_todo, rise_level, rise_short}
 use Rattle.wire_net.proofs.waves.rise_from.Goals as goal
 
@@ -10,6 +12,7 @@ loop-cell-init g c =
     let items : c.list-cell-items.result.now ≡ list_at c.args.fed.now.lists (slice_index (list_at c.loop-next.levels.lists c.args.level) c.loop-next.next) = c.list-cell-items.ensures ∙ ap (λ (xs : List ℕ). list_at c.args.fed.now.lists (slice_index xs c.loop-next.next)) c.list-in-loop-next.ensures in
     record {
       rising = rw items (rise_next (g.N.Net.net c.args.net.now) c.loop-next.powers c.loop-next.levels.lists c.args.level c.loop-next.next c.args.feeders.now.lists c.args.fed.now.lists c.loop-next.invariant.rising c.requires.lists c.requires.turned);
+      noted = notes_none c.loop-next.powers (InSome c.loop-next.levels.lists);
       room = refl;
     }
 
@@ -47,6 +50,9 @@ loop-cell-preserved g c =
           (slice_index c.list-cell-items.result.now c.loop-cell.cell-index) c.loop-cell.invariant.rising
           (λ e t. later-next c.list-cell-items.result.now c.loop-cell.cell-index e t)
           inside (g.met.N.Net.bounded c.args.net.now) c.lift.new.powers c.lift.new.levels.lists c.lift.ensures.step;
+      noted = notes_then c.loop-next.powers c.loop-cell.powers c.lift.new.powers (InSome c.loop-next.levels.lists) (InSome c.loop-cell.levels.lists) (InSome c.lift.new.levels.lists) c.loop-cell.invariant.noted
+          (notes_rose (g.N.Net.net c.args.net.now) c.loop-cell.powers c.loop-cell.levels.lists (slice_index c.list-cell-items.result.now c.loop-cell.cell-index) c.lift.new.powers c.lift.new.levels.lists
+          (g.met.N.Net.bounded c.args.net.now) c.loop-cell.invariant.rising.low c.loop-cell.invariant.rising.count c.lift.ensures.step);
       room = c.lift.ensures.room ∙ c.loop-cell.invariant.room;
     }
 
@@ -55,6 +61,7 @@ loop-next-preserved-in-loop-cell g c = record {
   rising = rise_todo (g.N.Net.net c.args.net.now) c.loop-cell.powers c.loop-cell.levels.lists c.args.level (c.loop-next.next + 1)
       (λ e. Later c.list-cell-items.result.now c.loop-cell.cell-index e) Nothing c.loop-cell.invariant.rising
       (λ e t. let low : c.loop-cell.cell-index ≤ t.0 = t.1 in let high : t.0 < length c.list-cell-items.result.now = t.2 in absurd (omega arith));
+  noted = notes_then c.args.powers.now c.loop-next.powers c.loop-cell.powers (InSome c.args.levels.now.lists) (InSome c.loop-next.levels.lists) (InSome c.loop-cell.levels.lists) c.loop-next.invariant.noted c.loop-cell.invariant.noted;
   room = c.loop-cell.invariant.room ∙ c.loop-next.invariant.room;
 }
 
@@ -62,6 +69,7 @@ pub loop-next-preserved : goal.loop-next-preserved
 loop-next-preserved g c = record {
   rising = rise_skip (g.N.Net.net c.args.net.now) c.loop-next.powers c.loop-next.levels.lists c.args.level c.loop-next.next c.loop-next.invariant.rising
       (λ e. c.if-powers-from.false (ap (λ (xs : List ℕ). slice_index c.loop-next.powers (slice_index xs c.loop-next.next)) c.list-in-loop-next.ensures ∙ e));
+  noted = c.loop-next.invariant.noted;
   room = c.loop-next.invariant.room;
 }
 

@@ -1,12 +1,15 @@
 use Rattle.std.proofs.Common.{arith, ◌<◌, ◌≤◌, ◌+◌, ◌∙◌, refl, length, slice_index, ℕ, inl, inr}
 use Rattle.wire_net.specs.WaveSteps.{Rising, Nothing}
 use Rattle.wire_net.proofs.Lists.{later-next, past_end}
+use Rattle.wire_net.specs.Noted.{InSome}
+use Rattle.wire_net.proofs.Notes.{notes_none, notes_then, notes_rose}
 use Rattle.wire_net.proofs.Rises.{IsTodo, rise_start, rise_step, rise_todo, rise_level}
 use Rattle.wire_net.proofs.waves.start_rise.Goals as goal
 
 pub loop-cell-init : goal.loop-cell-init
 loop-cell-init g c = record {
   rising = rise_start (g.N.Net.net c.args.net.now) c.args.changed.now c.args.powers.now c.args.fallen.now c.args.levels.now.lists (g.met.N.Net.bounded c.args.net.now) c.requires.falling c.requires.count c.requires.empty;
+  noted = notes_none c.args.powers.now (InSome c.args.levels.now.lists);
   room = refl;
 }
 
@@ -21,6 +24,9 @@ loop-cell-preserved g c = record {
       ])
       (c.requires.cells c.loop-cell.cell-index (omega arith)) (g.met.N.Net.bounded c.args.net.now)
       c.lift.new.powers c.lift.new.levels.lists c.lift.ensures.step;
+  noted = notes_then c.args.powers.now c.loop-cell.powers c.lift.new.powers (InSome c.args.levels.now.lists) (InSome c.loop-cell.levels.lists) (InSome c.lift.new.levels.lists) c.loop-cell.invariant.noted
+      (notes_rose (g.N.Net.net c.args.net.now) c.loop-cell.powers c.loop-cell.levels.lists (slice_index c.args.changed.now c.loop-cell.cell-index) c.lift.new.powers c.lift.new.levels.lists
+      (g.met.N.Net.bounded c.args.net.now) c.loop-cell.invariant.rising.low c.loop-cell.invariant.rising.count c.lift.ensures.step);
   room = c.lift.ensures.room ∙ c.loop-cell.invariant.room;
 }
 
@@ -35,6 +41,9 @@ loop-cell-2-preserved g c = record {
       ])
       (c.requires.falling.inside c.loop-cell-2.cell-index (omega arith)) (g.met.N.Net.bounded c.args.net.now)
       c.lift-in-loop-cell-2.new.powers c.lift-in-loop-cell-2.new.levels.lists c.lift-in-loop-cell-2.ensures.step;
+  noted = notes_then c.loop-cell.powers c.loop-cell-2.powers c.lift-in-loop-cell-2.new.powers (InSome c.loop-cell.levels.lists) (InSome c.loop-cell-2.levels.lists) (InSome c.lift-in-loop-cell-2.new.levels.lists) c.loop-cell-2.invariant.noted
+      (notes_rose (g.N.Net.net c.args.net.now) c.loop-cell-2.powers c.loop-cell-2.levels.lists (slice_index c.args.fallen.now c.loop-cell-2.cell-index) c.lift-in-loop-cell-2.new.powers c.lift-in-loop-cell-2.new.levels.lists
+      (g.met.N.Net.bounded c.args.net.now) c.loop-cell-2.invariant.rising.low c.loop-cell-2.invariant.rising.count c.lift-in-loop-cell-2.ensures.step);
   room = c.lift-in-loop-cell-2.ensures.room ∙ c.loop-cell-2.invariant.room;
 }
 
@@ -49,3 +58,7 @@ returns-clause-rising g c =
     rise_todo (g.N.Net.net c.args.net.now) c.loop-cell-2.powers c.loop-cell-2.levels.lists 16 0
     (IsTodo c.args.changed.now (length c.args.changed.now) c.args.fallen.now c.loop-cell-2.cell-index) Nothing c.loop-cell-2.invariant.rising none in
     rise_level (g.N.Net.net c.args.net.now) c.loop-cell-2.powers c.loop-cell-2.levels.lists 16 0 settled (past_end c.loop-cell-2.levels.lists 16 (omega (arith, settled.count)))
+
+pub returns-clause-noted : goal.returns-clause-noted
+returns-clause-noted g c =
+    notes_then c.args.powers.now c.loop-cell.powers c.loop-cell-2.powers (InSome c.args.levels.now.lists) (InSome c.loop-cell.levels.lists) (InSome c.loop-cell-2.levels.lists) c.loop-cell.invariant.noted c.loop-cell-2.invariant.noted

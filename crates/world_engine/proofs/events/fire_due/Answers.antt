@@ -1,29 +1,36 @@
-use Rattle.world_engine.specs.Things.{state_by}
-use Rattle.world_engine.proofs.Held.{state-seen}
-use Rattle.world_engine.proofs.Due.{fires_start, fires_next, fires_end, firing_lowers}
+use Rattle.std.proofs.Common.{ap, ◌∙◌, subst, ◌<◌, arith}
+use Rattle.circuit.specs.declared.Pos.{Pos}
+use Rattle.circuit.specs.Circuit.{State, IsDue}
+use Rattle.world_engine.specs.Running.{circuit_of, state_of, spot}
+use Rattle.world_engine.proofs.Due.{fires_next, fires_end, firing_lowers}
+use Rattle.world_engine.proofs.Playing.{none_now}
 use Rattle.world_engine.proofs.events.fire_due.Goals as goal
-
-pub loop-number-init : goal.loop-number-init
-loop-number-init c = record {
-  fired = fires_start c.args.things.now c.count.ensures.numbered (state_by c.args.things.now c.args.time c.args.cells.now);
-  within = c.requires.within;
-  powers = c.requires.powers;
-}
 
 pub loop-number-smaller : goal.loop-number-smaller
 loop-number-smaller c =
-    firing_lowers c.args.things.now c.count.ensures.numbered c.args.time c.loop-number.cells c.fire.new.cells c.in-Some.number c.requires.late c.in-Some.ensures c.fire.ensures.fired
+    let late : 0 < c.loop-number.cells.time = omega (arith, c.requires.late, c.loop-number.invariant.time) in
+    firing_lowers c.args.things.now c.count.ensures.numbered c.loop-number.cells c.fire_next.new.cells c.in-Some._number late c.in-Some.ensures.state.0 c.in-Some.ensures.state.1
 
 pub loop-number-preserved : goal.loop-number-preserved
-loop-number-preserved c = record {
-  fired = fires_next c.args.things.now c.count.ensures.numbered c.args.time (state_by c.args.things.now c.args.time c.args.cells.now) c.loop-number.cells c.fire.new.cells c.in-Some.number
-      c.loop-number.invariant.fired c.in-Some.ensures c.fire.ensures.fired;
-  within = c.fire.ensures.within;
-  powers = c.fire.ensures.powers;
-}
+loop-number-preserved c =
+    let m = c.args.things.now in
+    record {
+      fired = fires_next m (state_of m c.args.cells.now) (state_of m c.loop-number.cells) (state_of m c.fire_next.new.cells) (spot m c.in-Some._number) c.loop-number.invariant.fired c.in-Some.ensures.state.1;
+      time = ap (λ (s : State Pos). s.time) c.in-Some.ensures.state.1.after ∙ c.loop-number.invariant.time;
+      playing = c.in-Some.ensures.playing;
+      still = c.in-Some.ensures.still;
+    }
 
 pub returns-clause-fired : goal.returns-clause-fired
 returns-clause-fired c =
     let m = c.args.things.now in
-    rw (state-seen m c.args.time c.args.cells.now, state-seen m c.args.time c.loop-number.cells)
-    (fires_end m c.count.ensures.numbered c.args.time (state_by m c.args.time c.args.cells.now) c.loop-number.cells c.loop-number.invariant.fired c.in_default.ensures)
+    fires_end m (state_of m c.args.cells.now) (state_of m c.loop-number.cells) (state_of m c.fire_next.new.cells) c.loop-number.invariant.fired c.in_default.ensures.state
+
+pub returns-clause-time : goal.returns-clause-time
+returns-clause-time c = ap (λ (s : State Pos). s.time) c.in_default.ensures.state.same ∙ c.loop-number.invariant.time
+
+pub returns-clause-none : goal.returns-clause-none
+returns-clause-none c =
+    let m = c.args.things.now in
+    none_now m c.count.ensures.numbered c.fire_next.new.cells c.in_default.ensures.playing.holding.whole c.in_default.ensures.playing.idle
+    (λ p d. c.in_default.ensures.state.none p (subst (λ (s : State Pos). IsDue (circuit_of m) s p) c.in_default.ensures.state.same d))

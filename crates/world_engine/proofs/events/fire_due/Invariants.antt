@@ -1,14 +1,15 @@
-use Rattle.world_engine.specs.Things.{state_by}
-use Rattle.world_engine.specs.Running.{AreWithin, ArePowers}
+use Rattle.std.proofs.Common.{◌≡◌}
+use Rattle.world_engine.specs.Running.{state_of, AreStill, IsPlaying}
 use Rattle.world_engine.proofs.Due.{FiresFrom, due_count}
 use Rattle.world_engine.proofs.events.fire_due.Given as goal
 
 abbrev pub invariant-loop-number : goal.invariant-loop-number
 invariant-loop-number l = record {
-  fired : FiresFrom l.things (state_by l.things l.time l.initial.cells) (state_by l.things l.time l.cells);
-  within : AreWithin l.things l.cells;
-  powers : ArePowers l.things l.cells l.powers;
+  fired : FiresFrom l.things (state_of l.things l.initial.cells) (state_of l.things l.cells);
+  time : l.cells.time ≡ l.initial.cells.time;
+  playing : IsPlaying l.things l.cells l.powers l.waves.feeders;
+  still : AreStill l.things l.cells.cells l.powers;
 }
 
 abbrev pub decreases-loop-number : goal.decreases-loop-number
-decreases-loop-number l = due_count l.things l.time l.cells
+decreases-loop-number l = due_count l.things l.cells

@@ -12,14 +12,16 @@ use Rattle.world_engine.proofs.events.fired_from.Goals as goal
 pub returns-clause-fired : goal.returns-clause-fired
 returns-clause-fired c =
     let m = c.args.things.now in
+    let h = c.args.cells.now in
     c.fired.ensures
-    ∙ ap (λ (reads : Pos → Readings). fired_at c.args.time (role_at m.plan m.marks c.args.pos) (first_at m.plan c.args.pos) reads c.args.pos (held m c.args.cells.now nothing c.args.pos))
-    (reads-right m c.count.ensures.numbered c.args.cells.now c.args.powers.now c.requires.within c.requires.powers)
+    ∙ ap (λ (reads : Pos → Readings). fired_at h.time (role_at m.plan m.marks c.args.pos) (first_at m.plan c.args.pos) reads c.args.pos (held m h.cells nothing c.args.pos))
+    (reads-right m c.count.ensures.numbered h.cells c.args.powers.now c.requires.holding.within c.requires.powers)
 
 pub returns-clause-bounded : goal.returns-clause-bounded
 returns-clause-bounded c =
     let m = c.args.things.now in
+    let h = c.args.cells.now in
     let is = c.fired.ensures
-    ∙ ap (λ (reads : Pos → Readings). fired_at c.args.time (role_at m.plan m.marks c.args.pos) (first_at m.plan c.args.pos) reads c.args.pos (held m c.args.cells.now nothing c.args.pos))
-    (reads-right m c.count.ensures.numbered c.args.cells.now c.args.powers.now c.requires.within c.requires.powers) in
-    subst (BoundedAt (role_at m.plan m.marks c.args.pos)) (sym is) (bounded_fired m c.count.ensures.numbered c.args.time c.args.cells.now c.args.pos c.requires.within)
+    ∙ ap (λ (reads : Pos → Readings). fired_at h.time (role_at m.plan m.marks c.args.pos) (first_at m.plan c.args.pos) reads c.args.pos (held m h.cells nothing c.args.pos))
+    (reads-right m c.count.ensures.numbered h.cells c.args.powers.now c.requires.holding.within c.requires.powers) in
+    subst (BoundedAt (role_at m.plan m.marks c.args.pos)) (sym is) (bounded_fired m c.count.ensures.numbered h.time h.cells c.args.pos c.requires.holding.within)

@@ -1,29 +1,69 @@
-use Rattle.std.proofs.Common.{set, ap, ◌∙◌}
-use Rattle.circuit.specs.declared.Pos.{Pos}
-use Rattle.circuit.specs.Circuit.{State, attend}
-use Rattle.world_engine.specs.Running.{circuit_of, spot}
-use Rattle.world_engine.proofs.Held.{one-put, spot_number}
-use Rattle.world_engine.proofs.Within.{within_put}
+use Rattle.std.proofs.Common.{ℕ, ap, sym, subst, ◌∙◌}
+use Rattle.wire_net.specs.Net.{WasRight}
+use Rattle.wire_net.specs.Noted.{IsNoted}
+use Rattle.cell_queue.specs.Held.{Holding}
+use Rattle.world_engine.specs.Near.{IsNearby}
+use Rattle.world_engine.specs.Things.{state_by}
+use Rattle.world_engine.specs.WireThings.{thing_cells}
+use Rattle.world_engine.specs.Running.{given_by, spot, AreWithin, ArePowers, Attends, IsHolding, IsNearOne}
+use Rattle.world_engine.proofs.NearSteps.{at_time}
+use Rattle.world_engine.proofs.Reached.{was_right}
+use Rattle.world_engine.proofs.Settling.{putting_holds, settled_state, settled_powers, settled_still, settled_idle}
 use Rattle.world_engine.proofs.events.settle.Goals as goal
 
-pub solve-requires-clause-within : goal.solve-requires-clause-within
-solve-requires-clause-within c =
-    let m = c.args.things.now in
-    let w = c.count.ensures.numbered in
-    within_put m c.args.time c.args.cells.now (set c.args.cells.now c.args.number c.args.cell) (spot m c.args.number) c.args.cell c.requires.within c.requires.bounded
-    (one-put m w c.args.time c.args.cells.now (spot m c.args.number) c.args.number c.args.cell c.requires.cells_whole (spot_number m w c.args.number c.requires.inside))
+pub resolve-requires-clause-within : goal.resolve-requires-clause-within
+resolve-requires-clause-within c =
+    subst (λ (h : Holding). AreWithin c.args.things.now h.cells) (sym c.hold.ensures)
+    (putting_holds c.args.things.now c.count.ensures.numbered c.args.cells.now c.args.powers.now c.args.waves.now.feeders c.args.number c.args.cell c.requires.playing c.requires.inside c.requires.bounded).within
 
-pub attend_all-requires-clause-within : goal.attend_all-requires-clause-within
-attend_all-requires-clause-within c =
-    let m = c.args.things.now in
-    let w = c.count.ensures.numbered in
-    within_put m c.args.time c.args.cells.now (set c.args.cells.now c.args.number c.args.cell) (spot m c.args.number) c.args.cell c.requires.within c.requires.bounded
-    (one-put m w c.args.time c.args.cells.now (spot m c.args.number) c.args.number c.args.cell c.requires.cells_whole (spot_number m w c.args.number c.requires.inside))
+pub resolve-requires-clause-right : goal.resolve-requires-clause-right
+resolve-requires-clause-right c =
+    subst (λ (h : Holding). WasRight (thing_cells c.args.things.now (given_by c.args.things.now h.cells)) c.args.powers.now c.near_numbers-changed.result) (sym c.hold.ensures)
+    (was_right c.args.things.now c.count.ensures.numbered c.args.cells.now.cells c.args.number c.args.cell c.requires.playing.holding.whole c.requires.inside c.args.powers.now c.near_numbers-changed.result
+    c.requires.playing.holding.within c.requires.playing.solved c.near_numbers-changed.ensures.listed)
+
+pub attend_near-requires-clause-holding : goal.attend_near-requires-clause-holding
+attend_near-requires-clause-holding c =
+    subst (IsHolding c.args.things.now) (sym c.hold.ensures)
+    (putting_holds c.args.things.now c.count.ensures.numbered c.args.cells.now c.args.powers.now c.args.waves.now.feeders c.args.number c.args.cell c.requires.playing c.requires.inside c.requires.bounded)
 
 pub returns-clause-settled : goal.returns-clause-settled
 returns-clause-settled c =
     let m = c.args.things.now in
-    let w = c.count.ensures.numbered in
-    c.attend_all.ensures.attended
-    ∙ ap (λ (s : State Pos). attend (circuit_of m) s)
-    (one-put m w c.args.time c.args.cells.now (spot m c.args.number) c.args.number c.args.cell c.requires.cells_whole (spot_number m w c.args.number c.requires.inside))
+    let old = c.args.cells.now in
+    let time = ap (λ (h : Holding). h.time) c.hold.ensures in
+    let right = subst (λ (h : Holding). ArePowers m h.cells c.resolve.new.powers) c.hold.ensures c.resolve.ensures.right in
+    let first = subst (λ (h : Holding). Attends m h.time c.resolve.new.powers h.cells c.attend_near.new.cells.cells (IsNearby (spot m c.args.number))) c.hold.ensures c.attend_near.ensures.attends in
+    let second = at_time m c.attend_near.new.cells.time old.time c.resolve.new.powers c.attend_near.new.cells.cells c.attend_near_noted.new.cells.cells (IsNearOne m (IsNoted c.resolve.new.waves)) (c.attend_near.ensures.time ∙ time) c.attend_near_noted.ensures.attends in
+    ap (λ (t : ℕ). state_by m t c.attend_near_noted.new.cells.cells) (c.attend_near_noted.ensures.time ∙ c.attend_near.ensures.time ∙ time)
+    ∙ settled_state m c.count.ensures.numbered old c.args.powers.now c.args.waves.now.feeders c.args.number c.args.cell c.requires.playing c.requires.inside c.requires.bounded
+    c.resolve.new.powers c.resolve.new.waves c.attend_near.new.cells.cells c.attend_near_noted.new.cells.cells c.requires.still right c.resolve.ensures.noted first second
+
+pub returns-clause-playing : goal.returns-clause-playing
+returns-clause-playing c =
+    let m = c.args.things.now in
+    let old = c.args.cells.now in
+    let time = ap (λ (h : Holding). h.time) c.hold.ensures in
+    let right = subst (λ (h : Holding). ArePowers m h.cells c.resolve.new.powers) c.hold.ensures c.resolve.ensures.right in
+    let first = subst (λ (h : Holding). Attends m h.time c.resolve.new.powers h.cells c.attend_near.new.cells.cells (IsNearby (spot m c.args.number))) c.hold.ensures c.attend_near.ensures.attends in
+    let second = at_time m c.attend_near.new.cells.time old.time c.resolve.new.powers c.attend_near.new.cells.cells c.attend_near_noted.new.cells.cells (IsNearOne m (IsNoted c.resolve.new.waves)) (c.attend_near.ensures.time ∙ time) c.attend_near_noted.ensures.attends in
+    record {
+      holding = c.attend_near_noted.ensures.holding;
+      powers_whole = c.resolve.auto.powers ∙ c.requires.playing.powers_whole;
+      solved = settled_powers m c.count.ensures.numbered old c.args.powers.now c.args.waves.now.feeders c.args.number c.args.cell c.requires.playing c.requires.inside c.requires.bounded
+          c.resolve.new.powers c.resolve.new.waves c.attend_near.new.cells.cells c.attend_near_noted.new.cells.cells c.requires.still right c.resolve.ensures.noted first second;
+      made = c.resolve.ensures.made;
+      idle = settled_idle m c.count.ensures.numbered old c.args.powers.now c.args.waves.now.feeders c.args.number c.args.cell c.requires.playing c.requires.inside c.requires.bounded
+          c.resolve.new.powers c.resolve.new.waves c.attend_near.new.cells.cells c.attend_near_noted.new.cells.cells c.requires.still right c.resolve.ensures.noted first second c.requires.idle;
+    }
+
+pub returns-clause-still : goal.returns-clause-still
+returns-clause-still c =
+    let m = c.args.things.now in
+    let old = c.args.cells.now in
+    let time = ap (λ (h : Holding). h.time) c.hold.ensures in
+    let right = subst (λ (h : Holding). ArePowers m h.cells c.resolve.new.powers) c.hold.ensures c.resolve.ensures.right in
+    let first = subst (λ (h : Holding). Attends m h.time c.resolve.new.powers h.cells c.attend_near.new.cells.cells (IsNearby (spot m c.args.number))) c.hold.ensures c.attend_near.ensures.attends in
+    let second = at_time m c.attend_near.new.cells.time old.time c.resolve.new.powers c.attend_near.new.cells.cells c.attend_near_noted.new.cells.cells (IsNearOne m (IsNoted c.resolve.new.waves)) (c.attend_near.ensures.time ∙ time) c.attend_near_noted.ensures.attends in
+    settled_still m c.count.ensures.numbered old c.args.powers.now c.args.waves.now.feeders c.args.number c.args.cell c.requires.playing c.requires.inside c.requires.bounded
+    c.resolve.new.powers c.resolve.new.waves c.attend_near.new.cells.cells c.attend_near_noted.new.cells.cells c.requires.still right c.resolve.ensures.noted first second

@@ -10,6 +10,7 @@ use Rattle.world_engine.proofs.events.shown_at.Goals as goal
 pub returns : goal.returns
 returns c =
     let m = c.args.things.now in
+    let cells = c.args.cells.now.cells in
     c.shown.ensures
-    ∙ ap (λ (reads : Pos → Readings). seen_at (role_at m.plan m.marks c.args.pos) reads c.args.pos (held m c.args.cells.now nothing c.args.pos))
-    (reads-right m c.count.ensures.numbered c.args.cells.now c.args.powers.now c.requires.within c.requires.powers)
+    ∙ ap (λ (reads : Pos → Readings). seen_at (role_at m.plan m.marks c.args.pos) reads c.args.pos (held m cells nothing c.args.pos))
+    (reads-right m c.count.ensures.numbered cells c.args.powers.now c.requires.holding.within c.requires.powers)

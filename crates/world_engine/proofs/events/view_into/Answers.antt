@@ -9,10 +9,10 @@ loop-index-preserved c =
     below_more _ _
     (λ k h. let apart : k ≢ c.loop-index.index = omega arith in get_or-set_other c.loop-index.into c.loop-index.index k c.shown_at.result 0 apart ∙ c.loop-index.invariant k h)
     (get_or-set_same c.loop-index.into c.loop-index.index c.shown_at.result 0 inside ∙ c.shown_at.ensures
-    ∙ sym (get_or-map (shown_of c.args.things.now c.args.cells.now) c.args.places.now c.loop-index.index _ 0 c.loop-index-test.true))
+    ∙ sym (get_or-map (shown_of c.args.things.now c.args.cells.now.cells) c.args.places.now c.loop-index.index _ 0 c.loop-index-test.true))
 
 pub returns : goal.returns
 returns c =
-    ext_get_or 0 c.loop-index.into (map (shown_of c.args.things.now c.args.cells.now) c.args.places.now)
-    (c.loop-index.auto.into ∙ c.requires.room ∙ sym (length-map c.args.places.now (shown_of c.args.things.now c.args.cells.now)))
+    ext_get_or 0 c.loop-index.into (map (shown_of c.args.things.now c.args.cells.now.cells) c.args.places.now)
+    (c.loop-index.auto.into ∙ c.requires.room ∙ sym (length-map c.args.places.now (shown_of c.args.things.now c.args.cells.now.cells)))
     (λ i below. c.loop-index.invariant i (omega (arith, c.loop-index.auto.into, c.requires.room)))

@@ -6,4 +6,4 @@ use Rattle.world_engine.proofs.wires.WiresNet.cells.Goals as goal
 pub returns : goal.returns
 returns c =
     let m = c.args.self.now.given.things.now in
-    c.count.ensures.count ∙ sym (length-things m (given_by m c.args.self.now.given.cells.now))
+    c.count.ensures.count ∙ sym (length-things m (given_by m c.args.self.now.given.cells.now.cells))

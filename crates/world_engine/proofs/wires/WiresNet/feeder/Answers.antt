@@ -12,12 +12,12 @@ use Rattle.world_engine.proofs.wires.WiresNet.feeder.Goals as goal
 pub spot-pos-requires : goal.spot-pos-requires
 spot-pos-requires c =
     let m = c.args.self.now.given.things.now in
-    omega (arith, c.requires.in_net, length-things m (given_by m c.args.self.now.given.cells.now))
+    omega (arith, c.requires.in_net, length-things m (given_by m c.args.self.now.given.cells.now.cells))
 
 pub get-requires : goal.get-requires
 get-requires c =
     let m = c.args.self.now.given.things.now in
-    let given = given_by m c.args.self.now.given.cells.now in
+    let given = given_by m c.args.self.now.given.cells.now.cells in
     let below : c.args.cell < length m.spots = omega (arith, c.requires.in_net, length-things m given) in
     let count = ap (λ (cs : List ℕ). length cs) (feeders-wire m given c.args.cell c.spot-pos.result below c.spot-pos.ensures (sym c.wire_there.ensures ∙ c.if-wire_there.true))
     ∙ length-map (feeders m.plan c.spot-pos.result) (number_of m)
@@ -27,7 +27,7 @@ get-requires c =
 pub returns-then-wire_there : goal.returns-then-wire_there
 returns-then-wire_there c =
     let m = c.args.self.now.given.things.now in
-    let given = given_by m c.args.self.now.given.cells.now in
+    let given = given_by m c.args.self.now.given.cells.now.cells in
     let below : c.args.cell < length m.spots = omega (arith, c.requires.in_net, length-things m given) in
     let found = subst (λ (ps : List Pos). slice_get ps c.from.result ≡ Some c.get.result) c.feeders_at.ensures c.get.ensures in
     c.number_of.ensures
@@ -38,7 +38,7 @@ returns-then-wire_there c =
 pub returns-else-wire_there : goal.returns-else-wire_there
 returns-else-wire_there c =
     let m = c.args.self.now.given.things.now in
-    let given = given_by m c.args.self.now.given.cells.now in
+    let given = given_by m c.args.self.now.given.cells.now.cells in
     let below : c.args.cell < length m.spots = omega (arith, c.requires.in_net, length-things m given) in
     let none : ◌≡◌ {A = ℕ} 0 (slice_index [] c.args.index) = refl in
     none ∙ ap (λ (cs : List ℕ). slice_index cs c.args.index) (sym (feeders-none m given c.args.cell c.spot-pos.result below c.spot-pos.ensures (sym c.wire_there.ensures ∙ c.if-wire_there.false)))

@@ -10,12 +10,12 @@ use Rattle.world_engine.proofs.wires.WiresNet.feeder_count.Goals as goal
 pub spot-pos-requires : goal.spot-pos-requires
 spot-pos-requires c =
     let m = c.args.self.now.given.things.now in
-    omega (arith, c.requires, length-things m (given_by m c.args.self.now.given.cells.now))
+    omega (arith, c.requires, length-things m (given_by m c.args.self.now.given.cells.now.cells))
 
 pub returns-then-wire_there : goal.returns-then-wire_there
 returns-then-wire_there c =
     let m = c.args.self.now.given.things.now in
-    let given = given_by m c.args.self.now.given.cells.now in
+    let given = given_by m c.args.self.now.given.cells.now.cells in
     let below : c.args.cell < length m.spots = omega (arith, c.requires, length-things m given) in
     c.len.ensures.len ∙ ap (λ (ps : List Pos). length ps) c.feeders_at.ensures
     ∙ sym (ap (λ (cs : List ℕ). length cs) (feeders-wire m given c.args.cell c.spot-pos.result below c.spot-pos.ensures (sym c.wire_there.ensures ∙ c.if-wire_there.true))
@@ -24,6 +24,6 @@ returns-then-wire_there c =
 pub returns-else-wire_there : goal.returns-else-wire_there
 returns-else-wire_there c =
     let m = c.args.self.now.given.things.now in
-    let given = given_by m c.args.self.now.given.cells.now in
+    let given = given_by m c.args.self.now.given.cells.now.cells in
     let below : c.args.cell < length m.spots = omega (arith, c.requires, length-things m given) in
     sym (ap (λ (cs : List ℕ). length cs) (feeders-none m given c.args.cell c.spot-pos.result below c.spot-pos.ensures (sym c.wire_there.ensures ∙ c.if-wire_there.false)))

@@ -1,20 +1,19 @@
-use Rattle.std.specs.Vec.{with_items}
-use Rattle.std.proofs.lemmas.List.{with_items_is}
-use Rattle.std.proofs.Common.{length, ◌≡◌, ◌+◌, List, sym, ap, subst, ◌∙◌}
+use Rattle.std.proofs.Common.{◌+◌, List, sym, subst}
 use Rattle.circuit.specs.declared.Pos.{Pos}
-use Rattle.circuit.specs.declared.Cell.{Cell}
-use Rattle.circuit.specs.Circuit.{Ticks}
+use Rattle.circuit.specs.Circuit.{State, Ticks}
 use Rattle.power_rules.specs.World.{world_circuit}
-use Rattle.world_engine.specs.Running.{Running, circuit_of, state_in, seen_as, FiresAll}
+use Rattle.cell_queue.specs.Held.{Holding}
+use Rattle.world_engine.specs.Running.{Running, circuit_of, state_in, state_of, seen_as, FiresAll}
+use Rattle.world_engine.proofs.Held.{state-seen}
 use Rattle.world_engine.proofs.world.World.tick.Goals as goal
 
 pub returns-clause-ticked : goal.returns-clause-ticked
 returns-clause-ticked c =
     let w = c.self.inside in
-    let time = w.time + 1 in
-    let cells : (with_items w.cells c.fire_due.new.cells).items ≡ c.fire_due.new.cells =
-    with_items_is w.cells c.fire_due.new.cells (c.fire_due.auto.cells ∙ ap (λ (ps : List Cell). length ps) c.deref_mut.ensures.value ∙ sym w.cells.ok.0) in
-    let first = subst (λ (cs : List Cell). FiresAll (circuit_of w.things) (state_in (seen_as w.things time cs)) (state_in (seen_as w.things time c.fire_due.new.cells))) c.deref_mut.ensures.value c.fire_due.ensures.fired in
-    let both = subst (λ (cs : List Cell). FiresAll (circuit_of w.things) (state_in (seen_as w.things time w.cells.items)) (state_in (seen_as w.things time cs))) (sym cells) first in
-    subst (λ (r : Running). (x : List Pos) × Ticks (world_circuit r.plan r.marks) x (state_in r) (state_in (seen_as w.things time (with_items w.cells c.fire_due.new.cells).items))) c.self.view_is
+    let m = w.things in
+    let new = c.fire_due.new.cells in
+    let first = subst (λ (h : Holding). FiresAll (circuit_of m) (state_of m h) (state_of m new)) c.advance.ensures c.fire_due.ensures.fired in
+    let second = subst (λ (s : State Pos). FiresAll (circuit_of m) s (state_of m new)) (sym (state-seen m (w.cells.time + 1) w.cells.cells)) first in
+    let both = subst (λ (s : State Pos). FiresAll (circuit_of m) (state_in (seen_as m (w.cells.time + 1) w.cells.cells)) s) (sym (state-seen m new.time new.cells)) second in
+    subst (λ (r : Running). (x : List Pos) × Ticks (world_circuit r.plan r.marks) x (state_in r) (state_in (seen_as m new.time new.cells))) c.self.view_is
     (both.keys, record { order = both.order; after = both.after })

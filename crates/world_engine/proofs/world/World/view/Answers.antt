@@ -1,6 +1,5 @@
 use Rattle.std.proofs.Common.{◌≤◌, List, map, ap, ◌∙◌}
 use Rattle.std.proofs.lemmas.List.Elements.{All-same}
-use Rattle.circuit.specs.declared.Cell.{Cell}
 use Rattle.circuit.specs.Circuit.{view}
 use Rattle.build.specs.declared.OutPlace.{OutPlace}
 use Rattle.power_rules.specs.World.{world_circuit}
@@ -13,14 +12,12 @@ pub returns-clause-values : goal.returns-clause-values
 returns-clause-values c =
     let w = c.self.inside in
     c.view_into.ensures
-    ∙ ap (λ (ps : List Cell). map (shown_of w.things ps) c.deref-3.result.now) c.deref.ensures.value
-    ∙ ap (λ (os : List OutPlace). map (shown_of w.things w.cells.items) os) (c.deref-3.ensures.value ∙ c.self.invariant.shown)
-    ∙ view-shown w.things w.time w.cells.items
+    ∙ ap (λ (os : List OutPlace). map (shown_of w.things w.cells.cells) os) (c.deref-2.ensures.value ∙ c.self.invariant.shown)
+    ∙ view-shown w.things w.cells.time w.cells.cells
     ∙ ap (λ (r : Running). view (world_circuit r.plan r.marks) (state_in r)) c.self.view_is
 
 pub returns-clause-small : goal.returns-clause-small
 returns-clause-small c =
     let w = c.self.inside in
-    let is = c.view_into.ensures ∙ ap (λ (ps : List Cell). map (shown_of w.things ps) c.deref-3.result.now) c.deref.ensures.value in
-    All-same (λ n. n ≤ 15) c.view_into.new.into (map (shown_of w.things w.cells.items) c.deref-3.result.now) is
-    (shown-le w.things c.self.invariant.numbered w.cells.items c.self.invariant.within c.deref-3.result.now)
+    All-same (λ n. n ≤ 15) c.view_into.new.into (map (shown_of w.things w.cells.cells) c.deref-2.result.now) c.view_into.ensures
+    (shown-le w.things c.self.invariant.numbered w.cells.cells c.self.invariant.playing.holding.within c.deref-2.result.now)

@@ -1,0 +1,9 @@
+//! Cells under numbers, and their pending ticks in a queue.
+#![tactic(auto)]
+
+mod cells;
+
+pub use cells::{Cells, NOTHING, Wait};
+
+#[cfg(test)]
+mod tests;
