@@ -1,17 +1,17 @@
 -- Counts of strengths: what they say of a reading, and what becomes of them when one output changes.
-use Rattle.std.proofs.Common.{◌≡◌, ◌≢◌, ℕ, zero, suc, ◌+◌, ◌-◌, ◌<◌, ◌≤◌, ◌^◌, max, Bool, true, false, cond, List, [], ◌∷◌, ◌++◌, length, length-take, get_or, set, take, refl, sym, ap, ◌∙◌, arith, inl, inr}
+use Rattle.std.proofs.Common.{◌≡◌, ◌≢◌, ℕ, zero, suc, ◌+◌, ◌-◌, ◌<◌, ◌≤◌, ◌^◌, max, Bool, true, false, cond, List, [], ◌∷◌, ◌++◌, length, length-take, get_or, take, refl, sym, ap, ◌∙◌, arith, inl, inr}
 use Rattle.std.specs.Prelude.{◌==◌, ◌&&◌, count_by}
 use Rattle.std.proofs.lemmas.Bool.{cases_Bool, cases_eq, cases_lt, and_parts, eqb-true, eq-eqb, ne_eqb}
 use Rattle.std.proofs.lemmas.List.Sums.{sum_by-cons, sum_by_more, sum_by_more_le, count_by-le-length}
-use Rattle.std.proofs.lemmas.List.{get_or-set_same, get_or-set_other}
 use Rattle.graph.specs.declared.Group.{Group}
 use Rattle.graph.specs.declared.Group.TheVariants.{Back, Side}
 use Rattle.graph.specs.declared.Link.{Link}
 use Rattle.graph.specs.Links.{is_group, of_group}
 use Rattle.graph.specs.Readings.{share, reading}
 use Rattle.graph_machine.specs.declared.links.OutLink.{OutLink}
-use Rattle.graph_machine.specs.declared.counts.Counts.{Counts}
-use Rattle.graph_machine.specs.Counted.{one_if, is_strength, brings, hits, comes, row, count_at, no_counts, tally}
+use Rattle.link_counts.specs.declared.counts.Counts.{Counts}
+use Rattle.link_counts.specs.Counted.{one_if, tally}
+use Rattle.graph_machine.specs.Counted.{is_strength, brings, hits, comes, row}
 
 pub row_more : (xs : List (List OutLink)) → ((from : ℕ) → row xs from ≡ []) → (from : ℕ) → row (xs ++ [] ∷ []) from ≡ []
 row_more [] h zero = refl
@@ -156,35 +156,18 @@ abbrev pub Moved : List OutLink → ℕ → ℕ → List Counts → List Counts 
 Moved links old new before now = (key : ℕ) (group : Group) (strength : ℕ) →
     tally now key group strength + hits (is_strength old group strength) key links ≡ tally before key group strength + hits (is_strength new group strength) key links
 
-pub tally-set : (counts : List Counts) (to key : ℕ) (c : Counts) (group : Group) (strength : ℕ) → to < length counts → tally (set counts to c) key group strength ≡ cond (to == key) (count_at c group strength) (tally counts key group strength)
-tally-set counts to key c group strength inside = elim (cases_eq to key) [
-  | inl e ↦ rw (eq-eqb to key e, sym e) (ap (λ x. count_at x group strength) (get_or-set_same counts to c no_counts inside))
-  | inr n ↦ rw (ne_eqb to key n) (ap (λ x. count_at x group strength) (get_or-set_other counts to key c no_counts (λ e. n (sym e))))
-]
-
-pub moved_more : (links : List OutLink) (old new : ℕ) (before now : List Counts) (i : ℕ) (link : OutLink) (c : Counts) → i < length links → link ≡ get_or links i link → link.to < length now →
-    ((group : Group) (strength : ℕ) → count_at c group strength + one_if (is_strength old group strength link.group link.weight) ≡ tally now link.to group strength + one_if (is_strength new group strength link.group link.weight)) →
-    Moved (take i links) old new before now → Moved (take (i + 1) links) old new before (set now link.to c)
-moved_more links old new before now i link c inside here within moves so_far key group strength =
-    let was = hits_more (is_strength old group strength) key links i link inside here in
-    let is = hits_more (is_strength new group strength) key links i link inside here in
-    let put = tally-set now link.to key c group strength within in
-    let far = so_far key group strength in
-    elim (cases_eq link.to key) [
-      | inl e ↦
-          (let test : (link.to == key) ≡ true = eq-eqb link.to key e in
-          let put_here : tally (set now link.to c) key group strength ≡ count_at c group strength = rw test at put in
-          let was_here : hits (is_strength old group strength) key (take (i + 1) links) ≡ hits (is_strength old group strength) key (take i links) + one_if (is_strength old group strength link.group link.weight) = rw test at was in
-          let is_here : hits (is_strength new group strength) key (take (i + 1) links) ≡ hits (is_strength new group strength) key (take i links) + one_if (is_strength new group strength link.group link.weight) = rw test at is in
-          let same : tally now link.to group strength ≡ tally now key group strength = ap (λ k. tally now k group strength) e in
-          omega (arith, put_here, was_here, is_here, far, moves group strength, same))
-      | inr n ↦
-          (let test : (link.to == key) ≡ false = ne_eqb link.to key n in
-          let put_here : tally (set now link.to c) key group strength ≡ tally now key group strength = rw test at put in
-          let was_here : hits (is_strength old group strength) key (take (i + 1) links) ≡ hits (is_strength old group strength) key (take i links) + 0 = rw test at was in
-          let is_here : hits (is_strength new group strength) key (take (i + 1) links) ≡ hits (is_strength new group strength) key (take i links) + 0 = rw test at is in
-          omega (arith, put_here, was_here, is_here, far))
-    ]
+-- one link more
+pub moved_more : (links : List OutLink) (old new : ℕ) (before now after : List Counts) (i : ℕ) (link : OutLink) → i < length links → link ≡ get_or links i link →
+    ((other : ℕ) (second : Group) (at : ℕ) → tally after other second at + one_if ((link.to == other) && (is_group second link.group && ((old - link.weight) == at))) ≡ tally now other second at + one_if ((link.to == other) && (is_group second link.group && ((new - link.weight) == at)))) →
+    Moved (take i links) old new before now → Moved (take (i + 1) links) old new before after
+moved_more links old new before now after i link inside here shifted so_far key group strength =
+    omega (
+      arith,
+      hits_more (is_strength old group strength) key links i link inside here,
+      hits_more (is_strength new group strength) key links i link inside here,
+      shifted key group strength,
+      so_far key group strength,
+    )
 
 -- the next link is still counted by its old strength
 pub some_left : (links : List OutLink) (old new : ℕ) (before now : List Counts) (i : ℕ) (link : OutLink) → i < length links → link ≡ get_or links i link →
@@ -198,7 +181,7 @@ some_left links old new before now i link inside here enough so_far =
     omega (arith, one, all, enough, so_far link.to link.group (old - link.weight))
 
 -- and few are counted by its new one
-pub few_left : (links : List OutLink) (old new : ℕ) (before now : List Counts) (i key : ℕ) (group : Group) (strength : ℕ) → length links < 2 ^ 62 →
-    tally before key group strength < 2 ^ 62 → Moved (take i links) old new before now → tally now key group strength < 2 ^ 63
-few_left links old new before now i key group strength short small so_far =
-    omega (arith, short, small, so_far key group strength, count_by-le-length (hits_one (is_strength new group strength) key) (take i links), length-take i links)
+pub few_left : (links : List OutLink) (old new : ℕ) (before now : List Counts) (i key : ℕ) (group : Group) (strength : ℕ) → i < length links → length links ≤ 2 ^ 31 →
+    tally before key group strength < 2 ^ 31 → Moved (take i links) old new before now → tally now key group strength + 1 < 2 ^ 32
+few_left links old new before now i key group strength inside short small so_far =
+    omega (arith, inside, short, small, so_far key group strength, count_by-le-length (hits_one (is_strength new group strength) key) (take i links), length-take i links)

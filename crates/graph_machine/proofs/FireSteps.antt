@@ -12,10 +12,10 @@ use Rattle.circuit.specs.Circuit.{Circuit, State, out_at, put, attend, fired_at,
 use Rattle.circuit.specs.Bounds.{Bounded, BoundedAt}
 use Rattle.graph.specs.Graph.{node_at}
 use Rattle.graph.specs.GraphCircuit.{role_at, first_at, base_at, graph_circuit}
-use Rattle.graph_machine.specs.Held.{Holding, cell_of, CanFollow, rested, NoneNow, IsFirst}
+use Rattle.cell_queue.specs.Held.{Holding, cell_of, CanFollow, rested, NoneNow, IsFirst}
 use Rattle.graph_machine.specs.Wired.{Wired}
 use Rattle.graph_machine.specs.Playing.{held_state, reads_in, fired_by, IsPlaying, AllStill, OthersStill, FiresOne}
-use Rattle.graph_machine.proofs.HeldSteps.{length-set}
+use Rattle.cell_queue.proofs.HeldSteps.{length-set}
 use Rattle.graph_machine.proofs.PlaySteps.{delays_small, fired_follows, invariant}
 
 out_by_value : (role : Option Component) (base : ℕ) (one two : Cell) → one.value ≡ two.value → out_at role base one ≡ out_at role base two

@@ -3,7 +3,7 @@ use Rattle.std.proofs.Common.{◌≡◌, ◌≢◌, ℕ, zero, suc, ◌+◌, ◌
 use Rattle.std.proofs.Math.Path.{fun_ext}
 use Rattle.std.specs.Prelude.{◌==◌, IfSome}
 use Rattle.std.proofs.lemmas.Bool.{cases_eq, cases_lt, eq-eqb, ne_eqb}
-use Rattle.std.proofs.lemmas.List.{get_or-set_same, get_or-set_other}
+use Rattle.std.proofs.lemmas.List.{get_or-set_same, get_or-set_other, set-get_or}
 use Rattle.circuit.specs.declared.Component.{Component}
 use Rattle.circuit.specs.declared.Component.TheVariants.{Repeater as RepeaterPart, Comparator as ComparatorPart}
 use Rattle.circuit.specs.declared.Readings.{Readings}
@@ -23,12 +23,12 @@ use Rattle.graph.specs.GraphCircuit.{role_of, role_at, first_at, readings_at, gr
 use Rattle.graph.specs.Sound.{IsKindInRange, IsSoundNode, IsSound}
 use Rattle.graph.proofs.ListedSteps.{test_of_keys}
 use Rattle.graph.proofs.BoundSteps.{graph_is_bounded}
-use Rattle.graph_machine.specs.Held.{Holding, cell_of, IsSoon, CanFollow, rested}
+use Rattle.cell_queue.specs.Held.{Holding, cell_of, IsSoon, CanFollow, rested}
 use Rattle.graph_machine.specs.Outgoing.{links_from}
 use Rattle.graph_machine.specs.Wired.{Wired, given, IsTarget, AreTargets, targets_in}
 use Rattle.graph_machine.specs.Playing.{state_of, held_state, reads_in, attended_in, IsPlaying, AllStill, OthersStill, Attends, IsEarly}
 use Rattle.graph_machine.proofs.CountSteps.{reading_stays}
-use Rattle.graph_machine.proofs.HeldSteps.{cell-set, length-set}
+use Rattle.cell_queue.proofs.HeldSteps.{cell-set, length-set}
 
 -- ---- what follows a cell
 
@@ -202,7 +202,24 @@ module _ (w : Wired) (h : Holding) (key : ℕ) (component : Component) (cell : C
       (readings_stay (given w.outs) (given changed.outs) key (node_at w.nodes other) (λ k m. get_or-set_other w.outs key k (out component cell.value) 0 m) none)
       ∙ still h.time other n
 
-  module _ (targets : List ℕ) (all : AreTargets w.nodes targets key) (mid final : List Cell) (first : Attends changed h.time (λ k. k ≡ key) cells1 mid) (rest : Attends changed h.time (IsTarget targets) mid final) where
+  -- attending would change nothing there
+  abbrev pub IsCalm : ℕ → Type 0
+  IsCalm other = attended_in changed h.time other (cell_of h.cells other) ≡ cell_of h.cells other
+
+  -- who isn't a target is calm
+  pub calm_others : (targets : List ℕ) → AreTargets w.nodes targets key → (other : ℕ) → other ≢ key → IsTarget targets other ⊎ IsCalm other
+  calm_others targets all other n = elim (all other) [ inl target ↦ inl target | inr none ↦ inr (stays other n none) ]
+
+  pub same_outs : given w.outs key ≡ out component cell.value → w.outs ≡ set w.outs key (out component cell.value)
+  same_outs same = sym (ap (set w.outs key) (sym same) ∙ set-get_or w.outs key 0)
+
+  -- where the component gives what it gave, all others are
+  pub all_calm : given w.outs key ≡ out component cell.value → (other : ℕ) → other ≢ key → ⊥ ⊎ IsCalm other
+  all_calm same other n =
+      inr (ap (λ (o : List ℕ). attended_in (record { nodes = w.nodes; outs = o; targets = w.targets }) h.time other (cell_of h.cells other)) (sym (same_outs same)) ∙ still h.time other n)
+
+  -- the component attended first, and then some of the others, so that all that didn't are calm
+  module _ (Q : ℕ → Type 0) (covers : (other : ℕ) → other ≢ key → Q other ⊎ IsCalm other) (mid final : List Cell) (first : Attends changed h.time (λ k. k ≡ key) cells1 mid) (rest : Attends changed h.time Q mid final) where
     -- what attended first, and then again or not, has attended
     either : (other : ℕ) → cell_of mid other ≡ attended_in changed h.time other (cell_of cells1 other) → cell_of final other ≡ attended_in changed h.time other (cell_of cells1 other)
     either other e = elim (rest.each other) [
@@ -215,11 +232,11 @@ module _ (w : Wired) (h : Holding) (key : ℕ) (component : Component) (cell : C
       | inl e ↦ either other (first.done other e)
       | inr n ↦ elim (first.each other) [
         | inl a ↦ either other a
-        | inr s ↦ elim (all other) [
+        | inr s ↦ elim (covers other n) [
           | inl target ↦ rest.done other target ∙ ap (attended_in changed h.time other) s
-          | inr none ↦
+          | inr calm ↦
               (let same : cell_of cells1 other ≡ cell_of h.cells other = get_or-set_other h.cells key other cell _ n in
-              let quiet : cell_of cells1 other ≡ attended_in changed h.time other (cell_of cells1 other) = same ∙ sym (stays other n none) ∙ ap (attended_in changed h.time other) (sym same) in
+              let quiet : cell_of cells1 other ≡ attended_in changed h.time other (cell_of cells1 other) = same ∙ sym calm ∙ ap (attended_in changed h.time other) (sym same) in
               either other (s ∙ quiet))
         ]
       ]
@@ -263,36 +280,52 @@ pub record LeadsTo (w : Wired) (h : Holding) (key : ℕ) (cell : Cell) (w2 : Wir
   pub still : AllStill w2 h2
 
 module _ (w : Wired) (h : Holding) (key : ℕ) (component : Component) (cell : Cell) (playing : IsPlaying w h) (still : OthersStill key w h) (there : role_at (node_at w.nodes key) ≡ Some component)
-    (bounded : Bounded (graph_circuit w.nodes) (put (graph_circuit w.nodes) (held_state h) key cell)) (all : AreTargets w.nodes (targets_in w.targets key) key) where
+    (bounded : Bounded (graph_circuit w.nodes) (put (graph_circuit w.nodes) (held_state h) key cell)) where
   abbrev after : Wired
   after = changed w h key component cell playing still there bounded
+
+  abbrev Calm : ℕ → Type 0
+  Calm other = IsCalm w h key component cell playing still there bounded other
 
   -- the key attended to what it reads now
   abbrev pub FirstAttended : Wired → Holding → Holding → Type 0
   FirstAttended w2 h1 mid = mid ≡ record { time = h1.time; cells = set h1.cells key (attended_in w2 h1.time key (cell_of h1.cells key)) }
 
-  leads_from : (mid h2 : Holding) → FirstAttended after (record { time = h.time; cells = set h.cells key cell }) mid → h2.time ≡ mid.time →
-      Attends after mid.time (IsTarget (targets_in w.targets key)) mid.cells h2.cells → LeadsTo w h key cell after h2
-  leads_from mid h2 is time rest =
-      let targets : List ℕ = targets_in w.targets key in
+  leads_from : (Q : ℕ → Type 0) → ((other : ℕ) → other ≢ key → Q other ⊎ Calm other) → (mid h2 : Holding) → FirstAttended after (record { time = h.time; cells = set h.cells key cell }) mid → h2.time ≡ mid.time →
+      Attends after mid.time Q mid.cells h2.cells → LeadsTo w h key cell after h2
+  leads_from Q covers mid h2 is time rest =
       let now : mid.time ≡ h.time = ap (λ (m : Holding). m.time) is in
       let within : key < length (set h.cells key cell) = omega (arith, inside_of w h key component playing there, playing.whole, length-set h.cells key cell) in
-      let later : Attends after h.time (IsTarget targets) mid.cells h2.cells = subst (λ t. Attends after t (IsTarget targets) mid.cells h2.cells) now rest in
+      let later : Attends after h.time Q mid.cells h2.cells = subst (λ t. Attends after t Q mid.cells h2.cells) now rest in
       let first : Attends after h.time (λ k. k ≡ key) (set h.cells key cell) mid.cells =
       attends_more after h.time (λ k. ⊥) (λ k. k ≡ key) (set h.cells key cell) (set h.cells key cell) mid.cells key within (attends_none after h.time (λ k. ⊥) (set h.cells key cell) (λ k p. p)) (ap (λ (m : Holding). m.cells) is) (λ other e. inr e) in
       let result : LeadsTo w h key cell after (record { time = h.time; cells = h2.cells }) = record {
-        state = changed_state w h key component cell playing still there bounded targets all mid.cells h2.cells first later;
-        playing = changed_playing w h key component cell playing still there bounded targets all mid.cells h2.cells first later;
-        still = changed_still w h key component cell playing still there bounded targets all mid.cells h2.cells first later;
+        state = changed_state w h key component cell playing still there bounded Q covers mid.cells h2.cells first later;
+        playing = changed_playing w h key component cell playing still there bounded Q covers mid.cells h2.cells first later;
+        still = changed_still w h key component cell playing still there bounded Q covers mid.cells h2.cells first later;
       } in
       subst (λ t. LeadsTo w h key cell after (record { time = t; cells = h2.cells })) (sym (time ∙ now)) result
 
-  pub leads : (w2 : Wired) (h1 mid h2 : Holding) → w2.nodes ≡ w.nodes → w2.outs ≡ set w.outs key (out component cell.value) → w2.targets ≡ w.targets →
+  -- its targets attended too
+  pub leads : AreTargets w.nodes (targets_in w.targets key) key → (w2 : Wired) (h1 mid h2 : Holding) → w2.nodes ≡ w.nodes → w2.outs ≡ set w.outs key (out component cell.value) → w2.targets ≡ w.targets →
       h1 ≡ record { time = h.time; cells = set h.cells key cell } → FirstAttended w2 h1 mid → h2.time ≡ mid.time → Attends w2 mid.time (IsTarget (targets_in w2.targets key)) mid.cells h2.cells → LeadsTo w h key cell w2 h2
-  leads w2 h1 mid h2 nodes outs targets held first time rest =
+  leads all w2 h1 mid h2 nodes outs targets held first time rest =
       let same : w2 ≡ after = λ i. record { nodes = nodes i; outs = outs i; targets = targets i } in
       let begun : FirstAttended w2 (record { time = h.time; cells = set h.cells key cell }) mid = subst (λ (h1 : Holding). FirstAttended w2 h1 mid) held first in
+      let covers = calm_others w h key component cell playing still there bounded (targets_in w.targets key) all in
       let by : FirstAttended w2 (record { time = h.time; cells = set h.cells key cell }) mid → Attends w2 mid.time (IsTarget (targets_in w2.targets key)) mid.cells h2.cells → LeadsTo w h key cell w2 h2 =
       subst (λ (v : Wired). FirstAttended v (record { time = h.time; cells = set h.cells key cell }) mid → Attends v mid.time (IsTarget (targets_in v.targets key)) mid.cells h2.cells → LeadsTo w h key cell v h2)
-      (sym same) (λ f r. leads_from mid h2 f time r) in
+      (sym same) (λ f r. leads_from (IsTarget (targets_in w.targets key)) covers mid h2 f time r) in
       by begun rest
+
+  -- it gives what it gave, and attended alone
+  pub leads_alone : given w.outs key ≡ out component cell.value → (h1 mid : Holding) → h1 ≡ record { time = h.time; cells = set h.cells key cell } → FirstAttended w h1 mid → LeadsTo w h key cell w mid
+  leads_alone same h1 mid held first =
+      let outs = same_outs w h key component cell playing still there bounded same in
+      let is : w ≡ after = λ i. record { nodes = w.nodes; outs = outs i; targets = w.targets } in
+      let covers = all_calm w h key component cell playing still there bounded same in
+      let begun : FirstAttended w (record { time = h.time; cells = set h.cells key cell }) mid = subst (λ (h1 : Holding). FirstAttended w h1 mid) held first in
+      let by : FirstAttended w (record { time = h.time; cells = set h.cells key cell }) mid → LeadsTo w h key cell w mid =
+      subst (λ (v : Wired). FirstAttended v (record { time = h.time; cells = set h.cells key cell }) mid → LeadsTo w h key cell v mid)
+      (sym is) (λ f. leads_from (λ k. ⊥) covers mid mid f refl (attends_none after mid.time (λ k. ⊥) mid.cells (λ k p. p))) in
+      by begun

@@ -13,10 +13,10 @@ use Rattle.circuit.proofs.Settled.{delay_above, outs-attend}
 use Rattle.graph.specs.Graph.{Node, Nodes, node_at}
 use Rattle.graph.specs.GraphCircuit.{nothing, role_of, role_at, first_at, begin_of, begin_at, graph_circuit}
 use Rattle.graph.specs.Sound.{IsSoundNode, IsSound}
-use Rattle.graph_machine.specs.Held.{Holding, cell_of, IsSoon, IsNow, NoneNow}
+use Rattle.cell_queue.specs.Held.{Holding, cell_of, IsSoon, IsNow, NoneNow}
 use Rattle.graph_machine.specs.Wired.{Wired, given}
 use Rattle.graph_machine.specs.Playing.{state_of, held_state, reads_in, attended_in, IsPlaying, AllStill, Attends}
-use Rattle.graph_machine.proofs.HeldSteps.{same_default, past_cells}
+use Rattle.cell_queue.proofs.HeldSteps.{same_default, past_cells}
 use Rattle.graph_machine.proofs.PlaySteps.{twice_any, invariant}
 
 -- ---- the pending ticks of a sound graph

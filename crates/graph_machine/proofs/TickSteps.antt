@@ -11,7 +11,7 @@ use Rattle.graph.specs.Graph.{Node, Nodes, node_at, node_count}
 use Rattle.graph.specs.GraphCircuit.{role_at, graph_circuit}
 use Rattle.graph.proofs.ListedSteps.{test_of_keys}
 use Rattle.graph.proofs.NodeSteps.{below_length}
-use Rattle.graph_machine.specs.Counted.{one_if}
+use Rattle.link_counts.specs.Counted.{one_if}
 use Rattle.graph_machine.specs.Outgoing.{reads_of}
 use Rattle.graph_machine.specs.Playing.{FiresOne, FiresNone, FiresDue, due_key, count_from, due_count}
 use Rattle.graph_machine.proofs.CountSteps.{count_cons}
@@ -107,7 +107,7 @@ module _ (g : Nodes) where
   pub record FiredSoFar (old now : State ℕ) (noted_before noted : List ℕ) (before after : ℕ) : Type 0 where
     pub done : List ℕ
     pub noted_is : noted ≡ noted_before ++ done
-    pub reads : after ≡ before + sum_by (reads_of g) done
+    pub reads : after ≤ before + sum_by (reads_of g) done
     pub fires : (keys : List ℕ) → Fires C now keys → Fires C old (done ++ keys)
     pub state : (keys : List ℕ) → fire_all C old (done ++ keys) ≡ fire_all C now keys
 
@@ -115,7 +115,7 @@ module _ (g : Nodes) where
   fired_none s noted steps = record { done = []; noted_is = sym (append-nil noted); reads = omega arith; fires = λ keys f. f; state = λ keys. refl }
 
   pub fired_more : (old now next : State ℕ) (noted_before noted noted_next : List ℕ) (before steps after key : ℕ) → FiredSoFar old now noted_before noted before steps → FiresOne g now next key →
-      noted_next ≡ noted ++ key ∷ [] → after ≡ steps + reads_of g key → FiredSoFar old next noted_before noted_next before after
+      noted_next ≡ noted ++ key ∷ [] → after ≤ steps + reads_of g key → FiredSoFar old next noted_before noted_next before after
   fired_more old now next noted_before noted noted_next before steps after key so_far f more read = record {
     done = so_far.done ++ key ∷ [];
     noted_is = more ∙ ap (λ l. l ++ key ∷ []) so_far.noted_is ∙ append_assoc noted_before so_far.done (key ∷ []);
@@ -124,7 +124,7 @@ module _ (g : Nodes) where
     state = λ keys. ap (fire_all C old) (append_assoc so_far.done (key ∷ []) keys) ∙ so_far.state (key ∷ keys) ∙ ap (λ (t : State ℕ). fire_all C t keys) (sym f.after);
   }
 
-  pub fired_all : (old now new : State ℕ) (noted_before noted : List ℕ) (before steps after : ℕ) → FiredSoFar old now noted_before noted before steps → FiresNone g now new → after ≡ steps + 0 →
+  pub fired_all : (old now new : State ℕ) (noted_before noted : List ℕ) (before steps after : ℕ) → FiredSoFar old now noted_before noted before steps → FiresNone g now new → after ≤ steps + 0 →
       FiresDue g old new noted_before noted before after
   fired_all old now new noted_before noted before steps after so_far none read =
       let whole = append-nil so_far.done in

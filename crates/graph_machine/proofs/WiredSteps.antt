@@ -12,12 +12,13 @@ use Rattle.graph.specs.declared.Link.{Link}
 use Rattle.graph.specs.Graph.{Node, Nodes, node_at}
 use Rattle.graph.specs.Readings.{reading, back_of}
 use Rattle.graph.specs.GraphCircuit.{readings_at}
-use Rattle.graph_machine.specs.declared.counts.Counts.{Counts}
+use Rattle.link_counts.specs.declared.counts.Counts.{Counts}
 use Rattle.graph_machine.specs.declared.links.OutLink.{OutLink}
 use Rattle.graph_machine.specs.declared.net.Part.{Part}
 use Rattle.graph_machine.specs.Outgoing.{links_at, links_from}
-use Rattle.graph_machine.specs.Counted.{one_if, count_at, tally, is_strength, brings, IsCounted, row, hits, comes, IsTurned}
-use Rattle.graph_machine.specs.Wired.{given, part_of, part_at, targets_of, targets_in, IsWired, IsTarget, AreTargets, IsGreatest, ReadsBy, ReadBy}
+use Rattle.link_counts.specs.Counted.{one_if, count_at, tally}
+use Rattle.graph_machine.specs.Counted.{is_strength, brings, IsCounted, row, hits, comes, IsTurned}
+use Rattle.graph_machine.specs.Wired.{given, part_of, part_at, targets_of, targets_in, IsWired, IsTarget, AreTargets, IsGreatest, ReadsBy, ReadBy, part_readings}
 use Rattle.graph_machine.proofs.CountSteps.{count_cons, reading_is, counts_change, comes-le, Moved}
 
 -- the greatest strength that is counted is the reading
@@ -36,6 +37,15 @@ readings_are given (Some node) part counts readings small here counted read =
     let side = greatest_is given Side node.links counts readings.side small (counted Side) by.side in
     let back : readings.back ≡ back_of node.kind (reading given Back node.links) = by.back ∙ ap (back_of node.kind) power in
     λ i. record { back = back i; side = side i }
+
+pub read_by : (part : Option Part) (counts : Counts) (power side : ℕ) (readings : Readings) → IsGreatest counts Back power → IsGreatest counts Side side → readings ≡ part_readings part power side → ReadBy part counts readings
+read_by None counts power side readings greatest_power greatest_side is = is
+read_by (Some part) counts power side readings greatest_power greatest_side is = record {
+  power = power;
+  greatest = greatest_power;
+  back = ap (λ (r : Readings). r.back) is;
+  side = subst (IsGreatest counts Side) (sym (ap (λ (r : Readings). r.side) is)) greatest_side;
+}
 
 module _ (g : Nodes) (parts : List (Option Part)) (outs : List ℕ) (counts : List Counts) (rows : List (List OutLink)) (wired : IsWired g parts outs counts rows) where
   -- the links that go out of a key are counted

@@ -1,9 +1,9 @@
 -- The links into a node, one after another, and what a graph begins with.
-use Rattle.std.proofs.Common.{◌≡◌, ℕ, zero, suc, ◌+◌, ◌<◌, ◌≤◌, ◌^◌, Bool, true, false, cond, List, [], ◌∷◌, ◌++◌, length, length-append, get_or, set, take, Option, Some, None, refl, sym, ap, ◌∙◌, subst, arith, inl, inr}
-use Rattle.std.specs.Prelude.{◌==◌, ◌&&◌, count_by, All, IfSome, IsSome, replicate, nat_lt}
+use Rattle.std.proofs.Common.{◌≡◌, ℕ, zero, suc, ◌+◌, ◌<◌, ◌≤◌, ◌^◌, Bool, true, false, cond, List, [], ◌∷◌, ◌++◌, length, length-append, length-take, get_or, set, take, Option, Some, None, refl, sym, ap, ◌∙◌, subst, arith, inl, inr}
+use Rattle.std.specs.Prelude.{◌==◌, ◌&&◌, count_by, All, IfSome, IsSome, nat_lt}
 use Rattle.std.proofs.lemmas.Bool.{cases_Bool, cases_eq, cases_lt, eq-eqb, ne_eqb, lt-ltb, le-ltb, false≢true}
 use Rattle.std.proofs.lemmas.List.{get_or-set_same, get_or-set_other, get_or_past, take_all}
-use Rattle.std.proofs.lemmas.List.Sums.{sum_by-cons, sum_by-append, sum_by_more}
+use Rattle.std.proofs.lemmas.List.Sums.{sum_by-cons, sum_by-append, sum_by_more, count_by-le-length}
 use Rattle.std.proofs.lemmas.Option.{slice_get-get_or}
 use Rattle.circuit.specs.declared.Component.{Component}
 use Rattle.circuit.specs.Component.{top}
@@ -15,17 +15,19 @@ use Rattle.graph.specs.Graph.{Node, Nodes, node_at, Lives}
 use Rattle.graph.specs.GraphCircuit.{role_of, role_at, base_of, base_at, begin_of, begin_at, graph_circuit}
 use Rattle.graph.specs.Sound.{top_of, IsSoundNode, IsSound}
 use Rattle.node_arena.specs.Items.{keys_from}
-use Rattle.graph_machine.specs.declared.counts.Counts.{Counts}
+use Rattle.link_counts.specs.declared.counts.Counts.{Counts}
 use Rattle.graph_machine.specs.declared.links.OutLink.{OutLink}
 use Rattle.graph_machine.specs.declared.net.Part.{Part}
 use Rattle.graph_machine.specs.Outgoing.{links_at, links_from, outgoing}
-use Rattle.graph_machine.specs.Counted.{one_if, count_at, is_strength, brings, row, hits, comes, tally}
+use Rattle.link_counts.specs.Counted.{one_if, count_at, no_counts, tally}
+use Rattle.graph_machine.specs.Counted.{is_strength, brings, row, hits, comes}
 use Rattle.circuit.proofs.Bounded.{outs_le, bounded_is_invariant}
 use Rattle.graph.proofs.BoundSteps.{graph_is_bounded}
 use Rattle.graph.proofs.ListedSteps.{test_of_keys}
 use Rattle.graph_machine.specs.Wired.{given, part_at, IsWired}
 use Rattle.graph_machine.specs.Wiring.{IsSmall, role_out, part_out, WiresLinks, entry_below, WiredBelow, WiredUp, IsKept}
-use Rattle.graph_machine.proofs.CountSteps.{count_cons, tally-set}
+use Rattle.link_counts.proofs.TableSteps.{tally-push}
+use Rattle.graph_machine.proofs.CountSteps.{count_cons}
 
 count_push : {A : Type 0} (p : A → Bool) (xs : List A) (x : A) → count_by p (xs ++ x ∷ []) ≡ count_by p xs + one_if (p x)
 count_push p xs x = omega (arith, sum_by-append (λ y. one_if (p y)) xs (x ∷ []), count_cons p x [])
@@ -206,22 +208,26 @@ outgoing_all [] (suc count) from past = refl
 outgoing_all (entry ∷ g) (suc count) from past =
     omega (arith, sum_by-cons (links_from from) entry (take count g), sum_by-cons (links_from from) entry g, outgoing_all g count from (λ key h. past (suc key) (omega arith)))
 
-pub wired_none : (g : Nodes) (size : ℕ) (given : ℕ → ℕ) (counts : List Counts) (rows : List (List OutLink)) → ((key : ℕ) (group : Group) (strength : ℕ) → tally counts key group strength ≡ 0) →
+pub wired_none : (g : Nodes) (size : ℕ) (given : ℕ → ℕ) (counts : List Counts) (rows : List (List OutLink)) → counts ≡ [] →
     ((from : ℕ) → row rows from ≡ []) → length rows ≡ size → WiredBelow g 0 size given counts rows
 wired_none g size given counts rows no_count no_link whole = record {
-  counted = λ key group strength small. no_count key group strength ∙ ap (λ e. count_by (brings given group strength) (links_at e)) (sym (below_none g key));
+  counted = λ key group strength small. ap (λ l. tally l key group strength) no_count ∙ none group strength ∙ ap (λ e. count_by (brings given group strength) (links_at e)) (sym (below_none g key));
   same = λ test from to. ap (hits test to) (no_link from) ∙ ap (λ e. comes test from (links_at e)) (sym (below_none g to));
   out = λ from. ap (λ l. length l) (no_link from);
   inside = λ from. subst (All (λ (link : OutLink). link.to < length rows)) (sym (no_link from)) (λ k d below. absurd (omega arith));
-  few = λ key. subst (λ e. length (links_at e) < 2 ^ 62) (sym (below_none g key)) (omega arith);
+  few = λ key. subst (λ e. length (links_at e) < 2 ^ 31) (sym (below_none g key)) (omega arith);
   whole = whole;
 }
+  where
+    none : (group : Group) (strength : ℕ) → count_at no_counts group strength ≡ 0
+    none Back strength = refl
+    none Side strength = refl
 
-pub wired_more : (g : Nodes) (count size : ℕ) (given : ℕ → ℕ) (counts after : List Counts) (rows next : List (List OutLink)) (c : Counts) → count < length counts → WiredBelow g count size given counts rows →
-    WiresLinks given count (links_at (node_at g count)) c rows next → length (links_at (node_at g count)) < 2 ^ 62 → after ≡ set counts count c → WiredBelow g (count + 1) size given after next
-wired_more g count size given counts after rows next c inside so_far wires few put = record {
+pub wired_more : (g : Nodes) (count size : ℕ) (given : ℕ → ℕ) (counts after : List Counts) (rows next : List (List OutLink)) (c : Counts) → length counts ≡ count → WiredBelow g count size given counts rows →
+    WiresLinks given count (links_at (node_at g count)) c rows next → length (links_at (node_at g count)) < 2 ^ 31 → after ≡ counts ++ c ∷ [] → WiredBelow g (count + 1) size given after next
+wired_more g count size given counts after rows next c long so_far wires few put = record {
   counted = λ key group strength small.
-      let tally_is : tally after key group strength ≡ cond (count == key) (count_at c group strength) (tally counts key group strength) = ap (λ l. tally l key group strength) put ∙ tally-set counts count key c group strength inside in
+      let tally_is : tally after key group strength ≡ cond (count == key) (count_at c group strength) (tally counts key group strength) = ap (λ l. tally l key group strength) put ∙ tally-push counts c key group strength ∙ ap (λ n. cond (n == key) (count_at c group strength) (tally counts key group strength)) long in
       tally_is ∙ by_key (λ e. count_by (brings given group strength) (links_at e)) key (count_at c group strength) (tally counts key group strength) (wires.counted group strength small) (so_far.counted key group strength small);
   same = λ test from to.
       wires.same test from to ∙ ap (λ n. n + cond (count == to) (comes test from (links_at (node_at g count))) 0) (so_far.same test from to)
@@ -239,8 +245,8 @@ wired_more g count size given counts after rows next c inside so_far wires few p
   out = λ from. omega (arith, wires.count from, so_far.out from, outgoing_step g count from);
   inside = λ from. subst (λ n. All (λ (link : OutLink). link.to < n) (row next from)) (sym wires.whole) (wires.inside from (so_far.inside from));
   few = λ key. elim (cases_eq count key) [
-    | inl e ↦ (let entry : entry_below (count + 1) g key ≡ node_at g count = below_step count g key ∙ rw (eq-eqb count key e) refl in subst (λ e. length (links_at e) < 2 ^ 62) (sym entry) few)
-    | inr n ↦ (let entry : entry_below (count + 1) g key ≡ entry_below count g key = below_step count g key ∙ rw (ne_eqb count key n) refl in subst (λ e. length (links_at e) < 2 ^ 62) (sym entry) (so_far.few key))
+    | inl e ↦ (let entry : entry_below (count + 1) g key ≡ node_at g count = below_step count g key ∙ rw (eq-eqb count key e) refl in subst (λ e. length (links_at e) < 2 ^ 31) (sym entry) few)
+    | inr n ↦ (let entry : entry_below (count + 1) g key ≡ entry_below count g key = below_step count g key ∙ rw (ne_eqb count key n) refl in subst (λ e. length (links_at e) < 2 ^ 31) (sym entry) (so_far.few key))
   ];
   whole = wires.whole ∙ so_far.whole;
 }
@@ -259,7 +265,7 @@ wired_all g count given counts rows past wired = record {
     count = λ from. wired.out from ∙ outgoing_all g count from past;
     inside = wired.inside;
   };
-  few = λ key. subst (λ e. length (links_at e) < 2 ^ 62) (below_all count g past key) (wired.few key);
+  few = λ key. subst (λ e. length (links_at e) < 2 ^ 31) (below_all count g past key) (wired.few key);
   whole = wired.whole;
 }
 
@@ -277,16 +283,11 @@ from_inside g size sound past key = by_entry (node_at g key) (sound.each key)
     by_entry None h k d below = absurd (omega arith)
     by_entry (Some node) h k d below = inside (get_or node.links k d).from ((h node refl).links k (get_or node.links k d) (slice_get-get_or node.links k d below)).1
 
-pub tally_none : (count : ℕ) (c : Counts) → ((group : Group) (strength : ℕ) → count_at c group strength ≡ 0) → (key : ℕ) (group : Group) (strength : ℕ) → tally (replicate count c) key group strength ≡ 0
-tally_none zero c none key Back strength = refl
-tally_none zero c none key Side strength = refl
-tally_none (suc count) c none zero group strength = none group strength
-tally_none (suc count) c none (suc key) group strength = tally_none count c none key group strength
-
--- the next key has no count yet
-pub none_at : (g : Nodes) (count size : ℕ) (given : ℕ → ℕ) (counts : List Counts) (rows : List (List OutLink)) → WiredBelow g count size given counts rows → (group : Group) (strength : ℕ) → strength < 16 → tally counts count group strength ≡ 0
-none_at g count size given counts rows wired group strength small =
-    wired.counted count group strength small ∙ ap (λ e. count_by (brings given group strength) (links_at e)) (below_itself count g)
+-- a count is at most the number of links
+pub count_few : (given : ℕ → ℕ) (key : ℕ) (links : List Link) (i : ℕ) (counts : Counts) (before now : List (List OutLink)) (group : Group) (strength : ℕ) → strength < 16 → i < length links → length links < 2 ^ 31 →
+    WiresLinks given key (take i links) counts before now → count_at counts group strength + 1 < 2 ^ 32
+count_few given key links i counts before now group strength small inside few wires =
+    omega (arith, wires.counted group strength small, count_by-le-length (brings given group strength) (take i links), length-take i links, inside, few)
 
 -- what a key gives at the beginning is below 16
 pub begin_small : (g : Nodes) → IsSound g → (key : ℕ) → part_out (part_at (node_at g key)) < 16

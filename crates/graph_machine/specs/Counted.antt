@@ -1,29 +1,13 @@
 -- How many links bring each strength to a node, and the same links by where they come from.
-use Rattle.std.specs.Prelude.{◌≡◌, ℕ, ◌-◌, ◌<◌, ◌==◌, ◌&&◌, Bool, List, [], count_by, length, All, slice_index, slice_index_or, if◌then◌else◌}
+use Rattle.std.specs.Prelude.{◌≡◌, ℕ, ◌-◌, ◌<◌, ◌==◌, ◌&&◌, Bool, List, [], count_by, length, All, slice_index_or}
 use Rattle.graph.specs.declared.Group.{Group}
-use Rattle.graph.specs.declared.Group.TheVariants.{Back, Side}
 use Rattle.graph.specs.declared.Link.{Link}
 use Rattle.graph.specs.Links.{is_group}
 use Rattle.graph.specs.Graph.{Nodes, node_at}
-use Rattle.graph_machine.specs.declared.counts.Counts.{Counts}
+use Rattle.link_counts.specs.declared.counts.Counts.{Counts}
+use Rattle.link_counts.specs.Counted.{tally}
 use Rattle.graph_machine.specs.declared.links.OutLink.{OutLink}
 use Rattle.graph_machine.specs.Outgoing.{links_at, outgoing}
-
--- a test as a number
-abbrev pub one_if : Bool → ℕ
-one_if test = if test then 1 else 0
-
--- how many links of a group bring a strength
-abbrev pub count_at : Counts → Group → ℕ → ℕ
-count_at counts Back strength = slice_index counts.back strength
-count_at counts Side strength = slice_index counts.side strength
-
-abbrev pub no_counts : Counts
-no_counts = record { back = []; side = [] }
-
--- and of the node under a key
-abbrev pub tally : List Counts → ℕ → Group → ℕ → ℕ
-tally counts key group strength = count_at (slice_index_or counts key no_counts) group strength
 
 -- whether a link of this group and this weight brings the strength to the group, where what it comes from gives so much
 abbrev pub is_strength : ℕ → Group → ℕ → Group → ℕ → Bool

@@ -1,10 +1,10 @@
 pub mod Noted
-pub mod Held
 pub mod Outgoing
+pub mod Packed
 pub mod Counted
 pub mod Wired
 pub mod Playing
+pub mod Places
 pub mod Shown
 pub mod Wiring
 pub mod Started
-pub mod Good

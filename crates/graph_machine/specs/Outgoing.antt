@@ -15,6 +15,6 @@ links_from from entry = count_by (λ (link : Link). link.from == from) (links_at
 abbrev pub outgoing : Nodes → ℕ → ℕ
 outgoing g from = sum_by (links_from from) g
 
--- an event of the key reads one that says where its links stand, and each link twice
+-- an event of the key reads at most one that says where its links stand, and each link twice
 abbrev pub reads_of : Nodes → ℕ → ℕ
 reads_of g key = 1 + 2 * outgoing g key

@@ -10,10 +10,10 @@ use Rattle.circuit.specs.Firing.{due_at}
 use Rattle.graph.specs.Graph.{Nodes, node_at}
 use Rattle.graph.specs.GraphCircuit.{graph_circuit, role_at, first_at, readings_at}
 use Rattle.graph.specs.Sound.{IsSound}
-use Rattle.graph_machine.specs.Held.{Holding, cell_of}
+use Rattle.cell_queue.specs.Held.{Holding, cell_of}
 use Rattle.graph_machine.specs.Wired.{Wired, given, IsTarget}
 use Rattle.graph_machine.specs.Outgoing.{reads_of}
-use Rattle.graph_machine.specs.Counted.{one_if}
+use Rattle.link_counts.specs.Counted.{one_if}
 
 -- The nodes of the graph that was started, the time, what each key holds then, and how many events there were.
 pub record Playing : Type 0 where
@@ -101,18 +101,18 @@ abbrev pub MayFire : Nodes → State ℕ → State ℕ → Option ℕ → Type 0
 MayFire g old new None = FiresNone g old new
 MayFire g old new (Some key) = FiresOne g old new key
 
--- how many links the next firing reads
+-- how many links the next firing reads at most
 abbrev pub reads_by : Nodes → Option ℕ → ℕ
 reads_by g None = 0
 reads_by g (Some key) = reads_of g key
 
--- All that is due fires in the order of a firing list, and is noted behind what was noted before.
+-- All that is due fires in the order of a firing list, and is noted behind what was noted before. So many links at most are read.
 pub record FiresDue (g : Nodes) (old new : State ℕ) (noted_before noted_after : List ℕ) (before after : ℕ) : Type 0 where
   pub fires : List ℕ
   pub noted : noted_after ≡ noted_before ++ fires
   pub order : IsFiringList (graph_circuit g) old fires
   pub state : new ≡ fire_all (graph_circuit g) old fires
-  pub reads : after ≡ before + sum_by (reads_of g) fires
+  pub reads : after ≤ before + sum_by (reads_of g) fires
 
 -- whether the node under a key is due
 abbrev pub due_key : Nodes → State ℕ → ℕ → Bool

@@ -8,10 +8,11 @@ use Rattle.graph.specs.Graph.{Node, Nodes, node_at}
 use Rattle.graph.specs.Readings.{back_of}
 use Rattle.graph.specs.GraphCircuit.{role_of}
 use Rattle.graph_machine.specs.declared.net.Part.{Part}
-use Rattle.graph_machine.specs.declared.counts.Counts.{Counts}
+use Rattle.link_counts.specs.declared.counts.Counts.{Counts}
 use Rattle.graph_machine.specs.declared.links.OutLink.{OutLink}
 use Rattle.graph_machine.specs.Outgoing.{links_at, links_from}
-use Rattle.graph_machine.specs.Counted.{IsCounted, IsTurned, count_at}
+use Rattle.link_counts.specs.Counted.{count_at}
+use Rattle.graph_machine.specs.Counted.{IsCounted, IsTurned}
 
 -- The nodes of the graph, what each key gives, and for each key the nodes that read it.
 pub record Wired : Type 0 where
@@ -44,7 +45,7 @@ pub record IsWired (g : Nodes) (parts : List (Option Part)) (outs : List ℕ) (c
   pub small : (key : ℕ) → given outs key < 16
   pub counted : IsCounted g (given outs) counts
   pub turned : IsTurned g rows
-  pub few : (key : ℕ) → length (links_at (node_at g key)) < 2 ^ 62
+  pub few : (key : ℕ) → length (links_at (node_at g key)) < 2 ^ 31
   pub few_keys : length outs ≤ 2 ^ 32
 
 -- the key is among the targets
@@ -73,6 +74,11 @@ pub record ReadsBy (part : Part) (counts : Counts) (readings : Readings) : Type 
 abbrev pub ReadBy : Option Part → Counts → Readings → Type 0
 ReadBy None counts readings = readings ≡ record { back = 0; side = 0 }
 ReadBy (Some part) counts readings = ReadsBy part counts readings
+
+-- what a part reads, by the greatest strengths of its groups
+abbrev pub part_readings : Option Part → ℕ → ℕ → Readings
+part_readings None power side = record { back = 0; side = 0 }
+part_readings (Some part) power side = record { back = back_of part.kind power; side = side }
 
 -- the component that a part is, and whether it is a diode that faces a diode
 abbrev pub part_role : Option Part → Option Component

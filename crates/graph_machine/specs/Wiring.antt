@@ -7,10 +7,11 @@ use Rattle.graph.specs.declared.Link.{Link}
 use Rattle.graph.specs.Graph.{Node, Nodes, node_at}
 use Rattle.graph.specs.GraphCircuit.{role_of}
 use Rattle.graph.specs.Sound.{top_of}
-use Rattle.graph_machine.specs.declared.counts.Counts.{Counts}
+use Rattle.link_counts.specs.declared.counts.Counts.{Counts}
 use Rattle.graph_machine.specs.declared.links.OutLink.{OutLink}
 use Rattle.graph_machine.specs.declared.net.Part.{Part}
-use Rattle.graph_machine.specs.Counted.{count_at, tally, brings, IsCounted, row, hits, comes, IsTurned}
+use Rattle.link_counts.specs.Counted.{count_at, tally}
+use Rattle.graph_machine.specs.Counted.{brings, IsCounted, row, hits, comes, IsTurned}
 use Rattle.graph_machine.specs.Outgoing.{links_at, outgoing}
 use Rattle.graph_machine.specs.Wired.{part_at}
 
@@ -49,12 +50,12 @@ pub record WiredBelow (g : Nodes) (count size : ℕ) (given : ℕ → ℕ) (coun
   pub same : (test : Group → ℕ → Bool) (from to : ℕ) → hits test to (row rows from) ≡ comes test from (links_at (entry_below count g to))
   pub out : (from : ℕ) → length (row rows from) ≡ outgoing (take count g) from
   pub inside : (from : ℕ) → All (λ (link : OutLink). link.to < length rows) (row rows from)
-  pub few : (key : ℕ) → length (links_at (entry_below count g key)) < 2 ^ 62
+  pub few : (key : ℕ) → length (links_at (entry_below count g key)) < 2 ^ 31
   pub whole : length rows ≡ size
 
 -- and so those into all
 pub record WiredUp (g : Nodes) (size : ℕ) (given : ℕ → ℕ) (counts : List Counts) (rows : List (List OutLink)) : Type 0 where
   pub counted : IsCounted g given counts
   pub turned : IsTurned g rows
-  pub few : (key : ℕ) → length (links_at (node_at g key)) < 2 ^ 62
+  pub few : (key : ℕ) → length (links_at (node_at g key)) < 2 ^ 31
   pub whole : length rows ≡ size

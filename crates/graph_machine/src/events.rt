@@ -7,15 +7,15 @@ ghost use Rattle.circuit.specs.Component.{clicked};
 ghost use Rattle.graph.specs.Graph.{node_at, node_count};
 ghost use Rattle.graph.specs.GraphCircuit.{graph_circuit, role_at};
 ghost use Rattle.graph.specs.Sound.{IsSound};
-ghost use Rattle.graph_machine.specs.Held.{Holding, cell_of, CanFollow, NoneNow};
+ghost use Rattle.cell_queue.specs.Held.{Holding, cell_of, CanFollow, NoneNow};
 ghost use Rattle.graph_machine.specs.Wired.{given, targets_in, AreTargets, IsTarget};
 ghost use Rattle.graph_machine.specs.Outgoing.{reads_of};
 ghost use Rattle.graph_machine.specs.Playing.{attended_in, fired_by, held_state, IsPlaying, AllStill, OthersStill, Attends, MayFire, FiresDue, reads_by, due_count};
 
-use crate::cells::Cells;
 use crate::fired::Fired;
 use crate::net::Net;
 use crate::steps::Steps;
+use cell_queue::Cells;
 use circuit::{Cell, Component};
 use graph::NodeKey;
 use std::sync::ledger::Ledger;
@@ -104,7 +104,8 @@ fn attend_targets<L: Ledger>(
 }
 
 /// A component holds another cell, and then all attend. No other ones have to than the component
-/// and its targets, since the others read what they read before.
+/// and its targets, since the others read what they read before. Where the component gives what it
+/// gave, no link is read.
 fn change<L: Ledger>(
     net: &mut Net,
     cells: &mut Cells,
@@ -123,10 +124,15 @@ fn change<L: Ledger>(
     ensures state { held_state cells.new ≡ attend (graph_circuit net.old.nodes) (put (graph_circuit net.old.nodes) (held_state cells.old) key cell) }
     ensures playing { IsPlaying net.new cells.new }
     ensures still { AllStill net.new cells.new }
-    ensures read { steps.new ≡ steps.old + reads_of net.old.nodes key }
+    ensures read { steps.new ≤ steps.old + reads_of net.old.nodes key }
 {
     cells.hold(key, cell);
-    let count = net.change(key, circuit::out(component, cell.value), steps);
+    let out = circuit::out(component, cell.value);
+    if net.out(key) == out {
+        attend(net, cells, key);
+        return;
+    }
+    let count = net.change(key, out, steps);
     attend(net, cells, key);
     attend_targets(net, cells, key, count, steps);
 }
@@ -149,7 +155,7 @@ pub fn set_value<L: Ledger>(
     ensures state { held_state cells.new ≡ attend (graph_circuit net.old.nodes) (put (graph_circuit net.old.nodes) (held_state cells.old) key (with_value (cell_of cells.old.cells key) value)) }
     ensures playing { IsPlaying net.new cells.new }
     ensures still { AllStill net.new cells.new }
-    ensures read { steps.new ≡ steps.old + reads_of net.old.nodes key }
+    ensures read { steps.new ≤ steps.old + reads_of net.old.nodes key }
 {
     let cell = Cell {
         value,
@@ -168,7 +174,7 @@ pub fn fire_next<L: Ledger>(net: &mut Net, cells: &mut Cells, steps: &mut Steps<
     ensures playing { IsPlaying net.new cells.new }
     ensures still { AllStill net.new cells.new }
     ensures few { IfSome result (λ key. key < 2 ^ 32) }
-    ensures read { steps.new ≡ steps.old + reads_by net.old.nodes result }
+    ensures read { steps.new ≤ steps.old + reads_by net.old.nodes result }
 {
     let key = cells.take_due()?;
     if let Some(component) = net.role(key) {

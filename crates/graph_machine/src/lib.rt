@@ -3,19 +3,18 @@
 
 ghost use Rattle.std.specs.Prelude.{◌≡◌};
 
-mod cells;
-mod counts;
 mod events;
 mod fired;
 mod links;
 mod machine;
 mod net;
 mod outputs;
+mod places;
 mod steps;
 mod wiring;
 
 pub use build::ClickRefusal;
-pub use cells::Wait;
+pub use cell_queue::Wait;
 pub use fired::Fired;
 pub use machine::Machine;
 pub use steps::Steps;

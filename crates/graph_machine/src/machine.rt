@@ -6,18 +6,19 @@ ghost use Rattle.circuit.specs.Taken.{Takes};
 ghost use Rattle.graph.specs.Graph.{node_at, node_count};
 ghost use Rattle.graph.specs.GraphCircuit.{graph_circuit};
 ghost use Rattle.graph.specs.Sound.{IsSound};
-ghost use Rattle.graph_machine.specs.Held.{cell_of, wait_of};
+ghost use Rattle.cell_queue.specs.Held.{cell_of, wait_of};
 ghost use Rattle.graph_machine.specs.Playing.{state_in, TakesClick, TakesTick};
 ghost use Rattle.graph_machine.specs.Shown.{node_state};
 
-use crate::cells::{Cells, Wait};
 use crate::events::{attend_all, set_value, tick};
 use crate::fired::Fired;
 use crate::net::Net;
-use crate::outputs::{Shown, find_taker, node_state, shown_by, view_into};
+use crate::outputs::{node_state, view_into};
+use crate::places::{Keys, clicked_by, find_taker, shown_by};
 use crate::steps::Steps;
-use crate::wiring::begin_cells;
+use crate::wiring::{begin_cells, count_keys};
 use build::ClickRefusal;
+use cell_queue::{Cells, Wait};
 use circuit::{Click, Pos};
 use graph::{Graph, NodeKey};
 use rp_text::NoMemory;
@@ -30,7 +31,10 @@ use std::sync::ledger::Ledger;
 pub struct Machine {
     net: Net,
     cells: Cells,
-    shown: Vec<Shown>,
+    // The keys of the outputs, in order.
+    shown: Vec<u32>,
+    // The keys that take clicks.
+    clicked: Keys,
     // The keys that fired in the last tick.
     fired: Fired,
     events: u64,
@@ -44,7 +48,7 @@ impl Model for Machine {
 
     ghost view = { λ m. record { nodes = m.net.nodes; time = m.cells.time; cells = m.cells.cells; events = m.events } };
 
-    ghost invariant = { λ m. IsStarted m.net m.cells m.shown.items m.fired.room };
+    ghost invariant = { λ m. IsStarted m.net m.cells m.shown.items m.clicked m.fired.room };
 }
 
 impl Machine {
@@ -55,16 +59,19 @@ impl Machine {
         ensures start { IfOk result (λ machine. state_in machine ≡ start (graph_circuit graph.now.nodes)) }
         ensures events { IfOk result (λ machine. machine.events ≡ 0) }
     {
-        let net = Net::start(alloc, graph)?;
+        let count = count_keys(graph)?;
+        let shown = shown_by(alloc, graph, count)?;
+        let clicked = clicked_by(alloc, graph, count)?;
+        let net = Net::start(alloc, graph, count)?;
         let cells = begin_cells(alloc, graph, net.len())?;
         let mut cells = Cells::new(alloc, cells)?;
         attend_all(&net, &mut cells);
-        let shown = shown_by(alloc, &net)?;
         let fired = Fired::new(alloc, graph.node_count() as usize)?;
         Ok(Machine {
             net,
             cells,
             shown,
+            clicked,
             fired,
             events: 0,
         })
@@ -86,7 +93,7 @@ impl Machine {
         ensures same { OnErr result (self.new ≡ self.old) }
         ensures unread { OnErr result (steps.new ≡ steps.old) }
     {
-        let Some(key) = find_taker(&self.net, pos, click) else {
+        let Some(key) = find_taker(&self.net, &self.clicked, pos, click) else {
             return Err(ClickRefusal::NotClickable);
         };
         let component = self.net.role(key).unwrap();

@@ -1,6 +1,6 @@
 //! What the nodes give and read.
 
-ghost use Rattle.std.specs.Prelude.{◌≡◌, ◌+◌, ◌-◌, ◌*◌, ◌<◌, ◌≤◌, ◌^◌, ◌⊎◌, ℕ, length, slice_index, slice_index_or, slice_set, All, None, IfOk};
+ghost use Rattle.std.specs.Prelude.{◌≡◌, ◌+◌, ◌-◌, ◌*◌, ◌<◌, ◌==◌, ◌&&◌, ◌≤◌, ◌^◌, ◌⊎◌, ℕ, length, slice_index, slice_index_or, slice_set, All, None, IfOk};
 ghost use Rattle.circuit.specs.Circuit.{outs};
 ghost use Rattle.graph.specs.Graph.{node_at};
 ghost use Rattle.graph.specs.Sound.{IsSound};
@@ -8,15 +8,16 @@ ghost use Rattle.graph.specs.declared.Group.{Group};
 ghost use Rattle.graph.specs.GraphCircuit.{graph_circuit, begin_at, readings_at, role_of, role_at, first_at};
 ghost use Rattle.graph.specs.Readings.{back_of};
 ghost use Rattle.graph_machine.specs.Outgoing.{links_from, outgoing};
-ghost use Rattle.graph_machine.specs.Counted.{one_if, count_at, no_counts, tally, is_strength, hits, row};
-ghost use Rattle.graph_machine.specs.Wired.{Wired, given, part_at, targets_in, ReadBy, part_role, part_first};
+ghost use Rattle.link_counts.specs.Counted.{one_if, count_at, no_counts, tally};
+ghost use Rattle.graph_machine.specs.Counted.{is_strength, hits, row};
+ghost use Rattle.graph_machine.specs.Wired.{given, part_at, targets_in, part_readings, part_role, part_first};
 
-use crate::counts::Counts;
-use crate::links::{OutLink, OutLinks};
+use crate::links::{OutLink, OutLinks, Rows};
 use crate::steps::Steps;
-use crate::wiring::{count_keys, no_counts, outs_of, parts_of, wire};
+use crate::wiring::{outs_of, parts_of, wire};
 use circuit::{Component, Readings};
 use graph::{Graph, Group, Kind, Pos};
+use link_counts::Tables;
 use rp_text::NoMemory;
 use std::alloc::Global;
 use std::marker::Model;
@@ -40,7 +41,7 @@ pub struct Net {
     graph: Snapshot<Graph>,
     parts: Vec<Option<Part>>,
     outs: Vec<u8>,
-    counts: Vec<Counts>,
+    tables: Tables,
     links: OutLinks,
 }
 
@@ -52,7 +53,7 @@ impl Model for Net {
 
     ghost view = { λ net. record { nodes = net.graph.value.nodes; outs = net.outs.items; targets = map targets_of net.links } };
 
-    ghost invariant = { λ net. IsWired net.graph.value.nodes net.parts.items net.outs.items net.counts.items net.links };
+    ghost invariant = { λ net. IsWired net.graph.value.nodes net.parts.items net.outs.items net.tables net.links };
 }
 
 /// The component that a node is.
@@ -105,20 +106,27 @@ fn back_of(kind: Kind, power: u8) -> u8
 }
 
 /// A link brings another strength.
-fn move_one(counts: &mut Counts, group: Group, weight: u8, old: u8, new: u8)
+fn move_one(tables: &mut Tables, link: OutLink, old: u8, new: u8)
+    requires to { link.to < length tables.old }
     requires old { old < 16 }
     requires new { new < 16 }
-    requires some { 0 < count_at counts.old group (old - weight) }
-    requires few { count_at counts.old group (new - weight) < 2 ^ 63 }
-    ensures { (other : Group) (at : ℕ) → count_at counts.new other at + one_if (is_strength old other at group weight) ≡ count_at counts.old other at + one_if (is_strength new other at group weight) }
+    requires some { 0 < tally tables.old link.to link.group (old - link.weight) }
+    requires few { tally tables.old link.to link.group (new - link.weight) + 1 < 2 ^ 32 }
+    ensures whole { length tables.new ≡ length tables.old }
+    ensures moved { (key : ℕ) (group : Group) (strength : ℕ) →
+        tally tables.new key group strength + one_if ((link.to == key) && is_strength old group strength link.group link.weight) ≡ tally tables.old key group strength + one_if ((link.to == key) && is_strength new group strength link.group link.weight) }
 {
-    counts.remove(group, old.saturating_sub(weight));
-    counts.add(group, new.saturating_sub(weight));
+    tables.shift(
+        link.to as usize,
+        link.group,
+        old.saturating_sub(link.weight),
+        new.saturating_sub(link.weight),
+    );
 }
 
 /// The links out of a node bring another strength each.
 fn spread<L: Ledger>(
-    counts: &mut [Counts],
+    tables: &mut Tables,
     links: &OutLinks,
     from: usize,
     old: u8,
@@ -126,38 +134,33 @@ fn spread<L: Ledger>(
     steps: &mut Steps<L>,
 ) -> usize
     requires from { from < length links.now }
-    requires inside { All (λ link. link.to < length counts.old) (row links.now from) }
+    requires inside { All (λ link. link.to < length tables.old) (row links.now from) }
     requires old { old < 16 }
     requires new { new < 16 }
-    requires enough { (key : ℕ) (group : Group) (strength : ℕ) → strength < 16 → hits (is_strength old group strength) key (row links.now from) ≤ tally counts.old key group strength }
-    requires few { (key : ℕ) (group : Group) (strength : ℕ) → strength < 16 → tally counts.old key group strength < 2 ^ 62 }
+    requires enough { (key : ℕ) (group : Group) (strength : ℕ) → strength < 16 → hits (is_strength old group strength) key (row links.now from) ≤ tally tables.old key group strength }
+    requires few { (key : ℕ) (group : Group) (strength : ℕ) → strength < 16 → tally tables.old key group strength < 2 ^ 31 }
     ensures moved { (key : ℕ) (group : Group) (strength : ℕ) →
-        tally counts.new key group strength + hits (is_strength old group strength) key (row links.now from) ≡ tally counts.old key group strength + hits (is_strength new group strength) key (row links.now from) }
+        tally tables.new key group strength + hits (is_strength old group strength) key (row links.now from) ≡ tally tables.old key group strength + hits (is_strength new group strength) key (row links.now from) }
+    ensures whole { length tables.new ≡ length tables.old }
     ensures count { result ≡ length (row links.now from) }
     ensures read { steps.new ≡ steps.old + 1 + length (row links.now from) }
 {
     let count = links.count(from, steps);
     for index in 0..count {
         let link = links.link(from, index, steps);
-        move_one(
-            &mut counts[link.to as usize],
-            link.group,
-            link.weight,
-            old,
-            new,
-        );
+        move_one(tables, link, old, new);
     }
     count
 }
 
-/// What a node reads, by how many of its links bring each strength.
-fn readings_by(part: Option<Part>, counts: &Counts) -> Readings
-    ensures { ReadBy part counts.now result }
+/// What a node reads, by the greatest strengths that its links bring.
+fn readings_by(part: Option<Part>, power: u8, side: u8) -> Readings
+    ensures { result ≡ part_readings part power side }
 {
     match part {
         Some(part) => Readings {
-            back: back_of(part.kind, counts.greatest(Group::Back)),
-            side: counts.greatest(Group::Side),
+            back: back_of(part.kind, power),
+            side,
         },
         None => Readings { back: 0, side: 0 },
     }
@@ -166,23 +169,25 @@ fn readings_by(part: Option<Part>, counts: &Counts) -> Readings
 impl Net {
     ghost use Rattle.graph_machine.specs.Wired.{AreTargets};
 
-    /// The nodes of a graph as they begin.
-    pub fn start(alloc: Global, graph: &Graph) -> Result<Net, NoMemory>
-        requires { IsSound graph.now.nodes }
+    /// The nodes of a graph as they begin, under so many keys.
+    pub fn start(alloc: Global, graph: &Graph, count: usize) -> Result<Net, NoMemory>
+        requires sound { IsSound graph.now.nodes }
+        requires few { count ≤ 2 ^ 32 }
+        requires past { (key : ℕ) → count ≤ key → node_at graph.now.nodes key ≡ None }
         ensures nodes { IfOk result (λ net. net.nodes ≡ graph.now.nodes) }
         ensures outs { IfOk result (λ net. (key : ℕ) → given net.outs key ≡ outs (graph_circuit graph.now.nodes) (record { time = 0; cells = λ other. begin_at (node_at graph.now.nodes other) }) key) }
     {
-        let count = count_keys(graph)?;
         let parts = parts_of(alloc, graph, count)?;
         let outs = outs_of(alloc, &parts)?;
-        let mut counts = no_counts(alloc, count)?;
-        let mut links = OutLinks::new(alloc, count)?;
-        wire(graph, &outs, counts.as_mut_slice(), &mut links)?;
+        let mut tables = Tables::new(alloc, count)?;
+        let mut rows = Rows::new(alloc, count)?;
+        wire(graph, &outs, &mut tables, &mut rows)?;
+        let links = rows.pack(alloc)?;
         Ok(Net {
             graph: Snapshot::of(graph),
             parts,
             outs,
-            counts,
+            tables,
             links,
         })
     }
@@ -222,7 +227,17 @@ impl Net {
         requires { key < length self.now.outs }
         ensures { result ≡ readings_at (given self.now.outs) (node_at self.now.nodes key) }
     {
-        readings_by(self.parts[key], &self.counts[key])
+        let power = self.tables.greatest(key, Group::Back);
+        let side = self.tables.greatest(key, Group::Side);
+        readings_by(self.parts[key], power, side)
+    }
+
+    /// What the key gives.
+    pub fn out(&self, key: usize) -> u8
+        requires { key < length self.now.outs }
+        ensures { result ≡ given self.now.outs key }
+    {
+        self.outs[key]
     }
 
     /// Changes what a key gives, and tells how many links go out of it.
@@ -238,7 +253,7 @@ impl Net {
         ensures read { steps.new ≡ steps.old + 1 + result }
     {
         let count = spread(
-            &mut self.counts,
+            &mut self.tables,
             &self.links,
             key,
             self.outs[key],

@@ -7,19 +7,20 @@ ghost use Rattle.graph.specs.declared.Link.{Link};
 ghost use Rattle.graph.specs.Graph.{node_at};
 ghost use Rattle.graph.specs.Sound.{IsSound};
 ghost use Rattle.graph.specs.Stored.{plain};
-ghost use Rattle.graph_machine.specs.Counted.{count_at, tally, row};
+ghost use Rattle.link_counts.specs.Counted.{count_at, tally};
+ghost use Rattle.graph_machine.specs.Counted.{row};
 ghost use Rattle.graph.specs.GraphCircuit.{begin_of, begin_at};
-ghost use Rattle.graph_machine.specs.Held.{cell_of};
+ghost use Rattle.cell_queue.specs.Held.{cell_of};
 ghost use Rattle.graph_machine.specs.Outgoing.{links_at};
 ghost use Rattle.graph_machine.specs.Wired.{given, part_at};
 ghost use Rattle.graph_machine.specs.Wiring.{IsSmall, role_out, part_out, WiresLinks, IsKept, WiredUp};
 
-use crate::cells::NOTHING;
-use crate::counts::Counts;
-use crate::links::{OutLink, OutLinks};
+use crate::links::{MOST_LINKS, OutLink, Rows};
 use crate::net::{Part, role_of};
+use cell_queue::NOTHING;
 use circuit::{Cell, Component};
 use graph::{Graph, Link, Node, NodeKey};
+use link_counts::{Counts, Tables};
 use rp_text::NoMemory;
 use std::alloc::Global;
 
@@ -62,6 +63,14 @@ fn part_of(node: Option<&Node>) -> Option<Part>
     })
 }
 
+/// What a key is.
+pub fn part_under(graph: &Graph, key: usize) -> Option<Part>
+    requires { key < 2 ^ 32 }
+    ensures { result ≡ part_at (node_at graph.now.nodes key) }
+{
+    part_of(graph.node(NodeKey::new(key as u32)))
+}
+
 /// What each key is.
 pub fn parts_of(alloc: Global, graph: &Graph, count: usize) -> Result<Vec<Option<Part>>, NoMemory>
     requires few { count ≤ 2 ^ 32 }
@@ -71,7 +80,7 @@ pub fn parts_of(alloc: Global, graph: &Graph, count: usize) -> Result<Vec<Option
 {
     let mut parts = Vec::with_capacity(alloc, count)?;
     for key in 0..count {
-        parts.push(part_of(graph.node(NodeKey::new(key as u32))))?;
+        parts.push(part_under(graph, key))?;
     }
     Ok(parts)
 }
@@ -124,19 +133,20 @@ fn wire_links(
     key: u32,
     outs: &[u8],
     counts: &mut Counts,
-    out_links: &mut OutLinks,
+    rows: &mut Rows,
 ) -> Result<(), NoMemory>
-    requires from { All (λ (link : Link). link.from < length out_links.old) links.now }
-    requires whole { length outs.now ≡ length out_links.old }
+    requires from { All (λ (link : Link). link.from < length rows.old) links.now }
+    requires whole { length outs.now ≡ length rows.old }
     requires small { (key : ℕ) → given outs.now key < 16 }
-    requires inside { key < length out_links.old }
+    requires inside { key < length rows.old }
+    requires few { length links.now < 2 ^ 31 }
     requires none { (group : Group) (strength : ℕ) → strength < 16 → count_at counts.old group strength ≡ 0 }
-    ensures { OnOk result (WiresLinks (given outs.now) key links.now counts.new out_links.old out_links.new) }
+    ensures { OnOk result (WiresLinks (given outs.now) key links.now counts.new rows.old rows.new) }
 {
     for link in links {
         let from = link.from.number() as usize;
         counts.add(link.group, strength_of(outs, *link));
-        out_links.add(
+        rows.add(
             from,
             OutLink {
                 to: key,
@@ -154,18 +164,24 @@ fn wire_node(
     key: u32,
     outs: &[u8],
     counts: &mut Counts,
-    out_links: &mut OutLinks,
+    rows: &mut Rows,
 ) -> Result<(), NoMemory>
-    requires from { All (λ (link : Link). link.from < length out_links.old) (links_at (option_map plain (option_copied node))) }
-    requires whole { length outs.now ≡ length out_links.old }
+    requires from { All (λ (link : Link). link.from < length rows.old) (links_at (option_map plain (option_copied node))) }
+    requires whole { length outs.now ≡ length rows.old }
     requires small { (key : ℕ) → given outs.now key < 16 }
-    requires inside { key < length out_links.old }
+    requires inside { key < length rows.old }
     requires none { (group : Group) (strength : ℕ) → strength < 16 → count_at counts.old group strength ≡ 0 }
-    ensures wires { OnOk result (WiresLinks (given outs.now) key (links_at (option_map plain (option_copied node.entry))) counts.new out_links.old out_links.new) }
-    ensures few { length (links_at (option_map plain (option_copied node.entry))) < 2 ^ 62 }
+    ensures wires { OnOk result (WiresLinks (given outs.now) key (links_at (option_map plain (option_copied node.entry))) counts.new rows.old rows.new) }
+    ensures few { OnOk result (length (links_at (option_map plain (option_copied node.entry))) < 2 ^ 31) }
 {
     match node {
-        Some(node) => wire_links(node.links.items.as_slice(), key, outs, counts, out_links),
+        Some(node) => {
+            let links = node.links.items.as_slice();
+            if links.len() >= MOST_LINKS {
+                return Err(NoMemory);
+            }
+            wire_links(links, key, outs, counts, rows)
+        }
         None => Ok(()),
     }
 }
@@ -174,37 +190,31 @@ fn wire_node(
 pub fn wire(
     graph: &Graph,
     outs: &[u8],
-    counts: &mut [Counts],
-    out_links: &mut OutLinks,
+    tables: &mut Tables,
+    rows: &mut Rows,
 ) -> Result<(), NoMemory>
     requires sound { IsSound graph.now.nodes }
     requires past { (key : ℕ) → length outs.now ≤ key → node_at graph.now.nodes key ≡ None }
     requires few { length outs.now ≤ 2 ^ 32 }
     requires small { (key : ℕ) → given outs.now key < 16 }
-    requires counts_whole { length counts.old ≡ length outs.now }
-    requires links_whole { length out_links.old ≡ length outs.now }
-    requires no_count { (key : ℕ) (group : Group) (strength : ℕ) → tally counts.old key group strength ≡ 0 }
-    requires no_link { (from : ℕ) → row out_links.old from ≡ [] }
-    ensures { OnOk result (WiredUp graph.now.nodes (length outs.now) (given outs.now) counts.new out_links.new) }
+    requires no_count { tables.old ≡ [] }
+    requires rows_whole { length rows.old ≡ length outs.now }
+    requires no_link { (from : ℕ) → row rows.old from ≡ [] }
+    ensures wired { OnOk result (WiredUp graph.now.nodes (length outs.now) (given outs.now) tables.new rows.new) }
+    ensures whole { OnOk result (length tables.new ≡ length outs.now) }
 {
-    for key in 0..counts.len() {
+    for key in 0..outs.len() {
+        let mut counts = Counts::new();
         wire_node(
             graph.node(NodeKey::new(key as u32)),
             key as u32,
             outs,
-            &mut counts[key],
-            out_links,
+            &mut counts,
+            rows,
         )?;
+        tables.push(counts)?;
     }
     Ok(())
-}
-
-/// No count for any key.
-pub fn no_counts(alloc: Global, count: usize) -> Result<Vec<Counts>, NoMemory>
-    ensures count { IfOk result (λ counts. length counts.items ≡ count) }
-    ensures none { IfOk result (λ counts. (key : ℕ) (group : Group) (strength : ℕ) → tally counts.items key group strength ≡ 0) }
-{
-    Ok(vec![in alloc; Counts::new(); count]?)
 }
 
 fn begin_of(role: Option<Component>, cell: Cell) -> Cell

@@ -12,6 +12,3 @@ mod taps;
 mod wiring;
 
 pub use node_links::link;
-
-#[cfg(test)]
-mod tests;

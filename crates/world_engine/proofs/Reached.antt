@@ -62,7 +62,7 @@ module _ (m : Numbered) (w : IsNumbered m) (old : List Cell) (n : ℕ) (cell : C
   ])
 
   -- the powers were right, and base powers differ at no other things than those near it
-  pub was_right : (powers changed : List ℕ) → AreWithin m old → ArePowers m old powers → ((p : Pos) (k : ℕ) → IsNearby (spot m n) p → number_at m p ≡ Some k → Contains changed k) →
+  pub was_right : (powers changed : List ℕ) → AreWithin m old → ArePowers m old powers → ((p : Pos) (k : ℕ) → IsNearby (spot m n) p → wire_at m.plan p ≡ true → number_at m p ≡ Some k → Contains changed k) →
       WasRight (thing_cells m (given_by m (set old n cell))) powers changed
   was_right powers changed within right listed = record {
     before = thing_cells m (given_by m old);
@@ -72,11 +72,19 @@ module _ (m : Numbered) (w : IsNumbered m) (old : List Cell) (n : ℕ) (cell : C
     bases = bases;
   }
     where
+      base_or : (i : ℕ) → i < length m.spots → (wire_at m.plan (spot m i) ≡ true) ⊎ (wire_at m.plan (spot m i) ≡ false) →
+          ((thing_cell m (given_by m old) (spot m i)).base ≡ (thing_cell m (given_by m (set old n cell)) (spot m i)).base) ⊎ Contains changed i
+      base_or i l (inr e) = inl (rw e refl)
+      base_or i l (inl e) = elim (near_given (spot m i) (Contains changed i) (λ near. listed (spot m i) i near e (spot_number m w i l))) [
+        | inl same ↦ inl (base-same m (given_by m old) (given_by m (set old n cell)) (spot m i) same)
+        | inr c ↦ inr c
+      ]
+
       bases : (i : ℕ) → ((cell_at (thing_cells m (given_by m old)) i).base ≡ (cell_at (thing_cells m (given_by m (set old n cell))) i).base) ⊎ Contains changed i
       bases i = elim (cases_lt i (length m.spots)) [
-        | inl l ↦ elim (near_given (spot m i) (Contains changed i) (λ near. listed (spot m i) i near (spot_number m w i l))) [
+        | inl l ↦ elim (base_or i l (cases_Bool (wire_at m.plan (spot m i)))) [
           | inl same ↦ inl (ap (λ (c : NetCell). c.base) (things-at m (given_by m old) i origin l)
-              ∙ base-same m (given_by m old) (given_by m (set old n cell)) (spot m i) same
+              ∙ same
               ∙ sym (ap (λ (c : NetCell). c.base) (things-at m (given_by m (set old n cell)) i origin l)))
           | inr c ↦ inr c
         ]

@@ -1,6 +1,6 @@
 -- The wires of a build as a net: a cell for each thing, which is empty where no wire stands.
-use Rattle.std.proofs.Common.{◌≡◌, ℕ, ◌-◌, ◌<◌, ◌≤◌, max, true, List, length, get_or, map, Option, Some, refl, sym, ◌∙◌, ap, arith, inl, inr, slice_index, pos}
-use Rattle.std.specs.Prelude.{slice_index_or, if◌then◌else◌}
+use Rattle.std.proofs.Common.{◌≡◌, ℕ, ◌+◌, ◌-◌, ◌<◌, ◌≤◌, ◌⊎◌, max, true, false, List, length, get_or, map, Option, Some, refl, sym, ◌∙◌, ap, arith, inl, inr, slice_index}
+use Rattle.std.specs.Prelude.{slice_index_or, slice_set, if◌then◌else◌}
 use Rattle.std.specs.Option.{option_map_or}
 use Rattle.std.proofs.Math.Path.{fun_ext}
 use Rattle.std.proofs.lemmas.Bool.{cases_Bool, cases_lt}
@@ -17,6 +17,7 @@ use Rattle.wire_shape.specs.FeederFacts.{feeders-wires}
 use Rattle.power_rules.specs.RightWires.{source_power, AreRight, wire_powers, level_with, levels}
 use Rattle.power_rules.specs.WirePowers.{feeders-same, wires_right, wires_unique}
 use Rattle.power_rules.specs.Bounded.{source_power-le, wire_cells-bounded}
+use Rattle.world_engine.specs.Near.{origin}
 use Rattle.world_engine.specs.Things.{Numbered, IsNumbered, number_at, held}
 use Rattle.world_engine.specs.Numbers.{number_there, number_wire, number_cases, held-there, held-none}
 
@@ -24,9 +25,11 @@ use Rattle.world_engine.specs.Numbers.{number_there, number_wire, number_cases, 
 abbrev pub number_of : Numbered → Pos → ℕ
 number_of m p = option_map_or (λ (n : ℕ). n) (number_at m p) 0
 
--- the number of a thing, another one where none stands
-abbrev pub number_or : Numbered → ℕ → Pos → ℕ
-number_or m other p = option_map_or (λ (n : ℕ). n) (number_at m p) other
+-- a wire's number is written behind so many others, and nothing where no wire stands
+abbrev pub NotesWire : Numbered → Pos → List ℕ → ℕ → List ℕ → ℕ → Type 0
+NotesWire m p old count new next =
+    ((wire_at m.plan p ≡ false) × (new ≡ old) × (next ≡ count))
+    ⊎ ((wire_at m.plan p ≡ true) × (new ≡ slice_set old count (number_of m p)) × (next ≡ count + 1))
 
 abbrev pub thing_cell : Numbered → (Pos → ℕ) → Pos → Cell
 thing_cell m given p =
@@ -49,9 +52,6 @@ things-at m given n d h = get_or-map (thing_cell m given) m.spots n d no_cell h
 
 base-le : (m : Numbered) (given : Pos → ℕ) → ((q : Pos) → given q ≤ 15) → (p : Pos) → (thing_cell m given p).base ≤ 15
 base-le m given h p = elim (cases_Bool (wire_at m.plan p)) [ inl e ↦ rw e (source_power-le m.plan given h p) | inr e ↦ rw e (omega arith) ]
-
-origin : Pos
-origin = record { x = pos 0; y = pos 0; z = pos 0 }
 
 pub things_bounded : (m : Numbered) (given : Pos → ℕ) → ((q : Pos) → given q ≤ 15) → IsBounded (thing_cells m given)
 things_bounded m given h i = elim (cases_lt i (length m.spots)) [

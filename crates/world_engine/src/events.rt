@@ -10,7 +10,7 @@ ghost use Rattle.world_engine.specs.Things.{state_by};
 ghost use Rattle.world_engine.specs.Running.{circuit_of, state_of, spot, AreIdle, AreStill, OthersStill, ArePowers, IsHolding, IsPlaying, FiresAll, MayFire, shown_of};
 
 use crate::attend::{attend_all, attend_near, attend_near_noted};
-use crate::near::near_numbers;
+use crate::near::near_wires;
 use crate::sight::{cell_at, fired, shown};
 use crate::things::Things;
 use crate::wires::{resolve, solve};
@@ -58,8 +58,9 @@ fn settle(
 {
     let _ = things.count();
     cells.hold(number, cell);
-    let changed = near_numbers(things, number);
-    resolve(things, cells, powers, &changed, waves);
+    let mut changed = [0u32; 25];
+    let count = near_wires(things, number, &mut changed);
+    resolve(things, cells, powers, &changed[..count], waves);
     attend_near(things, powers, cells, number);
     attend_near_noted(things, powers, cells, waves);
 }

@@ -1,6 +1,6 @@
 //! Places and things within two steps of a place.
 
-ghost use Rattle.std.specs.Prelude.{◌≡◌, ◌<◌, ℕ, Some, Contains, IsTrue, length};
+ghost use Rattle.std.specs.Prelude.{◌≡◌, ◌≤◌, ◌<◌, ℕ, Some, true, Contains, length, take};
 ghost use Rattle.circuit.specs.declared.Pos.{Pos};
 ghost use Rattle.build.specs.Place.{beside};
 ghost use Rattle.build.specs.Plan.{IsNear};
@@ -8,9 +8,11 @@ ghost use Rattle.wire_net.specs.WaveSteps.{AreBelow};
 ghost use Rattle.world_engine.specs.Near.{IsNearby, nearby, two_beside};
 ghost use Rattle.world_engine.specs.Running.{spot};
 ghost use Rattle.world_engine.specs.Things.{number_at};
-ghost use Rattle.world_engine.specs.WireThings.{number_or};
+ghost use Rattle.world_engine.specs.WireThings.{NotesWire};
+ghost use Rattle.wire_shape.specs.Shape.{wire_at};
 
 use crate::things::Things;
+use crate::wires::{number_of, wire_there};
 use block_table::Side;
 use build::beside;
 use circuit::Pos;
@@ -66,30 +68,32 @@ pub(crate) fn nearby(pos: Pos) -> [Pos; 25]
     ]
 }
 
-// The number of the thing at a place, or another one where none stands.
-fn number_or(things: &Things, pos: Pos, other: usize) -> u32
-    requires { other < length things.now.spots }
-    ensures number { result ≡ number_or things.now other pos }
-    ensures below { result < length things.now.spots }
+// Puts the number of the wire at a place, if one stands there, behind so many numbers. It gives how
+// many there are then.
+fn note_wire(things: &Things, pos: Pos, wires: &mut [u32], count: usize) -> usize
+    requires { count < length wires.old }
+    ensures { NotesWire things.now pos wires.old count wires.new result }
 {
-    let _ = things.count();
-    match things.number(pos) {
-        Some(number) => number as u32,
-        None => other as u32,
+    if wire_there(things, pos) {
+        wires[count] = number_of(things, pos);
+        count + 1
+    } else {
+        count
     }
 }
 
-/// The numbers of all things within two steps of a thing, and where none stands its own.
-pub(crate) fn near_numbers(things: &Things, number: usize) -> [u32; 25]
-    requires { number < length things.now.spots }
-    ensures listed { (pos : Pos) (other : ℕ) → IsNearby (spot things.now number) pos → number_at things.now pos ≡ Some other → Contains result other }
-    ensures below { AreBelow (length things.now.spots) result }
+/// Writes the numbers of the wires within two steps of a thing, and gives how many there are.
+pub(crate) fn near_wires(things: &Things, number: usize, wires: &mut [u32]) -> usize
+    requires inside { number < length things.now.spots }
+    requires room { length wires.old ≡ 25 }
+    ensures few { result ≤ 25 }
+    ensures listed { (pos : Pos) (other : ℕ) → IsNearby (spot things.now number) pos → wire_at things.now.plan pos ≡ true → number_at things.now pos ≡ Some other → Contains (take result wires.new) other }
+    ensures below { AreBelow (length things.now.spots) (take result wires.new) }
 {
     let _ = things.count();
-    let places = nearby(things.spot(number));
-    let mut numbers = [number as u32; 25];
-    for (index, pos) in places.iter().enumerate() {
-        numbers[index] = number_or(things, *pos, number);
+    let mut count = 0;
+    for pos in nearby(things.spot(number)) {
+        count = note_wire(things, pos, wires, count);
     }
-    numbers
+    count
 }

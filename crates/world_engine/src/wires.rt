@@ -38,8 +38,8 @@ fn source_power<L: Levels>(build: &Build, levels: &L, pos: Pos) -> u8
     down.max(up.max(north.max(south.max(west.max(east)))))
 }
 
-// The number of a thing.
-fn number_of(things: &Things, pos: Pos) -> u32
+/// The number of a thing, 0 where none stands.
+pub(crate) fn number_of(things: &Things, pos: Pos) -> u32
     ensures { result ≡ number_of things.now pos }
 {
     let _ = things.count();
@@ -49,7 +49,8 @@ fn number_of(things: &Things, pos: Pos) -> u32
     }
 }
 
-fn wire_there(things: &Things, pos: Pos) -> bool
+/// Whether a wire stands at a place.
+pub(crate) fn wire_there(things: &Things, pos: Pos) -> bool
     ensures { result ≡ wire_at things.now.plan pos }
 {
     wire_at(things.build(), pos)

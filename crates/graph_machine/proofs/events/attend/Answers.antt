@@ -1,7 +1,7 @@
 use Rattle.std.proofs.Common.{◌≡◌, ap, sym, subst, ◌∙◌}
 use Rattle.graph.specs.Graph.{node_at}
 use Rattle.graph.specs.GraphCircuit.{role_at, first_at}
-use Rattle.graph_machine.specs.Held.{CanFollow, cell_of}
+use Rattle.cell_queue.specs.Held.{CanFollow, cell_of}
 use Rattle.graph_machine.specs.Playing.{attended_in, reads_in}
 use Rattle.graph_machine.proofs.PlaySteps.{delays_small, attended_follows}
 use Rattle.graph_machine.proofs.events.attend.Goals as goal

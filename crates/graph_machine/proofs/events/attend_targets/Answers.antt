@@ -1,5 +1,5 @@
 use Rattle.std.proofs.Common.{◌≡◌, ◌+◌, ◌<◌, length, ap, ◌∙◌, arith, set}
-use Rattle.graph_machine.specs.Held.{Holding, cell_of}
+use Rattle.cell_queue.specs.Held.{Holding, cell_of}
 use Rattle.graph_machine.specs.Wired.{targets_in, IsTarget}
 use Rattle.graph_machine.specs.Playing.{attended_in, IsEarly}
 use Rattle.graph_machine.proofs.PlaySteps.{attends_more, attends_as, early_split}

@@ -1,4 +1,4 @@
-use Rattle.std.proofs.Common.{◌≡◌, ◌<◌, ◌+◌, ◌∷◌, ◌++◌, [], ℕ, ◌∙◌, ap, sym, subst, arith, refl, length, Option, Some, None}
+use Rattle.std.proofs.Common.{◌≡◌, ◌<◌, ◌≤◌, ◌+◌, ◌∷◌, ◌++◌, [], ℕ, ◌∙◌, ap, sym, subst, arith, refl, length, Option, Some, None}
 use Rattle.std.proofs.lemmas.List.{length-append}
 use Rattle.circuit.specs.Circuit.{State, IsDue}
 use Rattle.graph.specs.Graph.{Nodes}
@@ -44,7 +44,7 @@ loop-key-preserved g c =
       still = c.fire_next.ensures.still;
       fired = fired_more nodes (held_state c.args.cells.now) (held_state c.loop-key.cells) (held_state c.fire_next.new.cells) c.args.fired.now.keys c.loop-key.fired.keys c.push.new.self.keys
           c.args.steps.now c.loop-key.steps c.fire_next.new.steps c.in-Some.key inv.fired one (c.push.ensures.keys ∙ ap (λ (k : ℕ). c.loop-key.fired.keys ++ k ∷ []) c.new.ensures)
-          (c.in-Some.ensures.read ∙ ap (λ (n : Nodes). c.loop-key.steps + reads_of n c.in-Some.key) inv.nodes);
+          (subst (λ (n : Nodes). c.fire_next.new.steps ≤ c.loop-key.steps + reads_of n c.in-Some.key) inv.nodes c.in-Some.ensures.read);
       spare = omega (arith, lowers, inv.spare, c.push.ensures.spare);
       room = c.push.ensures.room ∙ inv.room;
       few = omega (arith, lowers, inv.few, ap length c.push.ensures.keys, length-append c.loop-key.fired.keys (c.new.result ∷ []));
@@ -58,7 +58,7 @@ returns-clause-fires g c =
     let none : FiresNone nodes (held_state c.loop-key.cells) (held_state c.fire_next.new.cells) =
     subst (λ (n : Nodes). FiresNone n (held_state c.loop-key.cells) (held_state c.fire_next.new.cells)) inv.nodes
     (subst (λ (o : Option ℕ). MayFire c.loop-key.net.nodes (held_state c.loop-key.cells) (held_state c.fire_next.new.cells) o) nothing c.fire_next.ensures.state) in
-    let read = subst (λ (o : Option ℕ). c.fire_next.new.steps ≡ c.loop-key.steps + reads_by c.loop-key.net.nodes o) nothing c.fire_next.ensures.read in
+    let read = subst (λ (o : Option ℕ). c.fire_next.new.steps ≤ c.loop-key.steps + reads_by c.loop-key.net.nodes o) nothing c.fire_next.ensures.read in
     fired_all nodes (held_state c.args.cells.now) (held_state c.loop-key.cells) (held_state c.fire_next.new.cells) c.args.fired.now.keys c.loop-key.fired.keys c.args.steps.now c.loop-key.steps c.fire_next.new.steps inv.fired none read
 
 pub returns-clause-none : goal.returns-clause-none

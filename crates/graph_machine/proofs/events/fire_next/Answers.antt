@@ -2,7 +2,7 @@ use Rattle.std.proofs.Common.{◌∙◌, ap, sym, subst}
 use Rattle.circuit.specs.Bounds.{Bounded}
 use Rattle.circuit.specs.Circuit.{put, attend}
 use Rattle.graph.specs.GraphCircuit.{graph_circuit}
-use Rattle.graph_machine.specs.Held.{Holding, cell_of, CanFollow}
+use Rattle.cell_queue.specs.Held.{Holding, cell_of, CanFollow}
 use Rattle.graph_machine.specs.Playing.{held_state, fired_by}
 use Rattle.graph_machine.proofs.FireSteps.{fired_can_follow, fired_bounded, fires_one}
 use Rattle.graph_machine.proofs.events.fire_next.Goals as goal

@@ -1,6 +1,6 @@
 use Rattle.std.proofs.Common.{ℕ, length, ap, ◌∙◌, arith}
 use Rattle.circuit.specs.Circuit.{State}
-use Rattle.graph_machine.specs.Held.{Holding}
+use Rattle.cell_queue.specs.Held.{Holding}
 use Rattle.graph_machine.specs.Playing.{held_state}
 use Rattle.graph_machine.proofs.TickSteps.{due_le, due_within, fire_all_time}
 use Rattle.graph_machine.proofs.events.tick.Goals as goal

@@ -1,7 +1,7 @@
 use Rattle.std.proofs.Common.{◌≡◌, ◌<◌, ℕ, length}
 use Rattle.graph.specs.Graph.{node_at}
 use Rattle.graph.specs.GraphCircuit.{begin_at}
-use Rattle.graph_machine.specs.Held.{cell_of}
+use Rattle.cell_queue.specs.Held.{cell_of}
 use Rattle.graph_machine.proofs.wiring.begin_cells.Given as goal
 
 abbrev pub invariant-loop-key : goal.invariant-loop-key

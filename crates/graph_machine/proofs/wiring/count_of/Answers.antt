@@ -1,5 +1,5 @@
 use Rattle.std.proofs.Common.{◌≡◌, ◌<◌, ℕ, ◌∙◌, subst, arith, get_or, below_more}
-use Rattle.graph_machine.proofs.HeldSteps.{same_default}
+use Rattle.cell_queue.proofs.HeldSteps.{same_default}
 use Rattle.graph_machine.proofs.wiring.count_of.Goals as goal
 
 pub loop-key-preserved : goal.loop-key-preserved

@@ -1,4 +1,4 @@
-use Rattle.std.proofs.Common.{ℕ, ap, sym, subst, ◌∙◌}
+use Rattle.std.proofs.Common.{take, ℕ, ap, sym, subst, ◌∙◌}
 use Rattle.wire_net.specs.Net.{WasRight}
 use Rattle.wire_net.specs.Noted.{IsNoted}
 use Rattle.cell_queue.specs.Held.{Holding}
@@ -18,9 +18,10 @@ resolve-requires-clause-within c =
 
 pub resolve-requires-clause-right : goal.resolve-requires-clause-right
 resolve-requires-clause-right c =
-    subst (λ (h : Holding). WasRight (thing_cells c.args.things.now (given_by c.args.things.now h.cells)) c.args.powers.now c.near_numbers-changed.result) (sym c.hold.ensures)
-    (was_right c.args.things.now c.count.ensures.numbered c.args.cells.now.cells c.args.number c.args.cell c.requires.playing.holding.whole c.requires.inside c.args.powers.now c.near_numbers-changed.result
-    c.requires.playing.holding.within c.requires.playing.solved c.near_numbers-changed.ensures.listed)
+    let changed = take c.near_wires-count.result c.near_wires-count.new.wires in
+    subst (λ (h : Holding). WasRight (thing_cells c.args.things.now (given_by c.args.things.now h.cells)) c.args.powers.now changed) (sym c.hold.ensures)
+    (was_right c.args.things.now c.count.ensures.numbered c.args.cells.now.cells c.args.number c.args.cell c.requires.playing.holding.whole c.requires.inside c.args.powers.now changed
+    c.requires.playing.holding.within c.requires.playing.solved c.near_wires-count.ensures.listed)
 
 pub attend_near-requires-clause-holding : goal.attend_near-requires-clause-holding
 attend_near-requires-clause-holding c =

@@ -4,6 +4,7 @@ use Rattle.circuit.specs.Circuit.{State}
 use Rattle.circuit.specs.Component.{clicked}
 use Rattle.graph.specs.Graph.{Nodes, node_count}
 use Rattle.graph.specs.GraphCircuit.{graph_circuit}
+use Rattle.graph_machine.specs.Places.{AreClicked}
 use Rattle.graph_machine.specs.Playing.{Playing, state_in, held_state, TakesClick}
 use Rattle.graph_machine.proofs.StartSteps.{none_after_click}
 use Rattle.graph_machine.proofs.machine.Machine.click.Goals as goal
@@ -18,6 +19,7 @@ invariant_of-self g c =
       none = none_after_click m.net.nodes m.cells c.set_value.new.cells c.in-Some.key c.unwrap-value.result c.self.invariant.none c.set_value.ensures.state;
       early = omega (arith, time, c.self.invariant.early);
       outputs = c.self.invariant.outputs ∙ ap (λ (n : Nodes). (graph_circuit n).shown) (sym c.set_value.ensures.nodes);
+      takers = subst (λ (n : Nodes). AreClicked n m.clicked) (sym c.set_value.ensures.nodes) c.self.invariant.takers;
       enough = subst (λ (n : Nodes). node_count n ≤ m.fired.room) (sym c.set_value.ensures.nodes) c.self.invariant.enough;
     }
 

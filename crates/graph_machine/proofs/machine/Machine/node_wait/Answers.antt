@@ -1,5 +1,5 @@
-use Rattle.graph_machine.specs.Held.{cell_of}
-use Rattle.graph_machine.proofs.HeldSteps.{left_range}
+use Rattle.cell_queue.specs.Held.{cell_of}
+use Rattle.cell_queue.proofs.HeldSteps.{left_range}
 use Rattle.graph_machine.proofs.machine.Machine.node_wait.Goals as goal
 
 pub returns-clause-left : goal.returns-clause-left

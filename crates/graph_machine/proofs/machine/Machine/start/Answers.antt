@@ -3,7 +3,8 @@ use Rattle.circuit.specs.Circuit.{outs, start}
 use Rattle.graph.specs.Graph.{Nodes, node_at, node_count}
 use Rattle.graph.specs.GraphCircuit.{begin_at, graph_circuit}
 use Rattle.graph.specs.Sound.{IsSound}
-use Rattle.graph_machine.specs.Held.{Holding, cell_of}
+use Rattle.cell_queue.specs.Held.{Holding, cell_of}
+use Rattle.graph_machine.specs.Places.{AreClicked}
 use Rattle.graph_machine.specs.Wired.{given}
 use Rattle.graph_machine.specs.Playing.{IsPlaying, AllStill, Attends}
 use Rattle.graph_machine.proofs.StartSteps.{begins_soon, Begins, start_state, start_playing, start_still, none_at_start}
@@ -35,7 +36,8 @@ invariant_of-result c =
       still = subst (λ t. AllStill w (record { time = t; cells = after })) (sym time) (start_still w cells after begins all);
       none = none_at_start c.attend_all.new.cells time;
       early = omega (arith, time);
-      outputs = c.in_ok-shown.ensures;
+      outputs = c.in_ok-shown.ensures ∙ ap (λ (n : Nodes). (graph_circuit n).shown) (sym nodes);
+      takers = subst (λ (n : Nodes). AreClicked n c.in_ok-clicked.clicked) (sym nodes) c.in_ok-clicked.ensures;
       enough = omega (arith, many, c.in_ok-fired.ensures.room, c.node_count.ensures);
     }
 

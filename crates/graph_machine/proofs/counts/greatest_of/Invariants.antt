@@ -1,9 +1,0 @@
-use Rattle.std.proofs.Common.{◌≡◌, ◌<◌, ℕ, get_or}
-use Rattle.graph_machine.proofs.counts.greatest_of.Given as goal
-
-abbrev pub invariant-loop-strength : goal.invariant-loop-strength
-invariant-loop-strength l = record {
-  small : l.greatest < l.strength;
-  some : 0 < l.greatest → 0 < get_or l.counts l.greatest 0;
-  none : (strength : ℕ) → l.greatest < strength → strength < l.strength → get_or l.counts strength 0 ≡ 0;
-}

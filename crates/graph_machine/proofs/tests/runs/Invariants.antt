@@ -1,4 +1,0 @@
-use Rattle.graph_machine.proofs.tests.runs.Given as goal
-
-abbrev pub ghosts-plays : goal.ghosts-plays
-ghosts-plays a = record { name = a.blank.name; parts = a.blank.parts }

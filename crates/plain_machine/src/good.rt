@@ -1,0 +1,150 @@
+//! Whether a small graph is sound, by looking at each of its nodes.
+
+ghost use Rattle.std.specs.Prelude.{◌≡◌, ◌<◌, ◌≤◌, ◌^◌, ℕ, max, All, None, IsTrue, IfOk};
+ghost use Rattle.std.specs.List.{list_all};
+ghost use Rattle.graph.specs.Graph.{node_at};
+ghost use Rattle.graph.specs.GraphCircuit.{role_of};
+ghost use Rattle.graph.specs.Sound.{IsSound, can_wait, top_of};
+ghost use Rattle.graph.specs.Stored.{plain};
+ghost use Rattle.plain_machine.specs.Good.{is_small, is_kind_good, is_tick_good, is_link_good, is_alone, is_node_good, is_entry_good};
+
+use graph::{Graph, Kind, Link, Node, NodeKey};
+use rp_text::NoMemory;
+
+fn is_small(strength: Option<u8>) -> bool
+    ensures { result ≡ is_small strength }
+{
+    match strength {
+        Some(strength) => strength <= 15,
+        None => true,
+    }
+}
+
+fn is_kind_good(kind: Kind) -> bool
+    ensures { result ≡ is_kind_good kind }
+{
+    match kind {
+        Kind::Button { delay } => delay == 10 || delay == 15,
+        Kind::Repeater { delay } => 1 <= delay && delay <= 4,
+        Kind::Comparator { direct, far, .. } => is_small(direct) && is_small(far),
+        _ => true,
+    }
+}
+
+/// The greatest state of a node.
+pub fn top_of(kind: Kind) -> u8
+    ensures { result ≡ top_of (role_of kind) }
+{
+    match kind {
+        Kind::Weighted | Kind::Comparator { .. } | Kind::Constant => 15,
+        Kind::Wire => 0,
+        _ => 1,
+    }
+}
+
+fn can_wait(kind: Kind) -> bool
+    ensures { result ≡ can_wait kind }
+{
+    match kind {
+        Kind::Torch
+        | Kind::Repeater { .. }
+        | Kind::Comparator { .. }
+        | Kind::Lamp
+        | Kind::Button { .. } => true,
+        _ => false,
+    }
+}
+
+fn is_tick_good(kind: Kind, due: u8, priority: u8) -> bool
+    ensures { result ≡ is_tick_good kind due priority }
+{
+    if due == 0 {
+        priority == 0
+    } else {
+        can_wait(kind) && due <= 15 && priority <= 3
+    }
+}
+
+fn is_link_good(graph: &Graph, link: Link) -> bool
+    ensures { result ≡ is_link_good graph.now.nodes link }
+{
+    link.weight <= 15 && graph.node(link.from).is_some()
+}
+
+fn are_links_good(graph: &Graph, links: &[Link]) -> bool
+    ensures { result ≡ list_all (is_link_good graph.now.nodes) links.now }
+{
+    links.iter().all(|link| is_link_good(graph, *link))
+}
+
+fn is_alone(key: u32, node: &Node) -> bool
+    requires { key < 2 ^ 31 }
+    ensures { result ≡ is_alone key (plain node.now) }
+{
+    node.pos.x == key as i32 && node.also.items.len() == 0
+}
+
+fn is_node_good(graph: &Graph, key: u32, node: &Node) -> bool
+    requires { key < 2 ^ 31 }
+    ensures { result ≡ is_node_good graph.now.nodes key (plain node.now) }
+{
+    node.state <= top_of(node.kind)
+        && is_kind_good(node.kind)
+        && is_tick_good(node.kind, node.due, node.priority)
+        && are_links_good(graph, node.links.items.as_slice())
+        && is_alone(key, node)
+}
+
+fn is_entry_good(graph: &Graph, key: u32) -> bool
+    requires { key < 2 ^ 31 }
+    ensures { result ≡ is_entry_good graph.now.nodes key (node_at graph.now.nodes key) }
+{
+    match graph.node(NodeKey::new(key)) {
+        Some(node) => is_node_good(graph, key, node),
+        None => true,
+    }
+}
+
+fn larger(one: usize, other: usize) -> usize
+    ensures { result ≡ max one other }
+{
+    if one < other { other } else { one }
+}
+
+/// One more than the last key, or 0 where there is none.
+fn count_of(keys: &[NodeKey]) -> usize
+    ensures above { All (λ key. key < result) keys.now }
+    ensures few { result ≤ 2 ^ 32 }
+{
+    let mut count = 0;
+    for key in keys {
+        count = larger(count, key.number() as usize + 1);
+    }
+    count
+}
+
+/// So many keys are enough for the nodes of the graph.
+fn count_keys(graph: &Graph) -> Result<usize, NoMemory>
+    ensures past { IfOk result (λ count. (key : ℕ) → count ≤ key → node_at graph.now.nodes key ≡ None) }
+    ensures few { IfOk result (λ count. count ≤ 2 ^ 32) }
+{
+    let keys = graph.keys()?;
+    Ok(count_of(&keys))
+}
+
+/// Whether a graph of fewer than a hundred keys is found to be sound, where each node stands at the
+/// place of its key.
+pub fn is_good(graph: &Graph) -> Result<bool, NoMemory>
+    ensures { IfOk result (λ good. IsTrue good → IsSound graph.now.nodes) }
+{
+    let count = count_keys(graph)?;
+    if count > 100 {
+        return Ok(false);
+    }
+    for key in 0..count {
+        if !is_entry_good(graph, key as u32) {
+            return Ok(false);
+        }
+    }
+    Ok(true)
+}
