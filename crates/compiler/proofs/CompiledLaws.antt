@@ -57,7 +57,7 @@ outer_takes (Comparator subtract direct far) component click there taken = absur
 outer_takes Constant component click there taken = absurd (cc)
 outer_takes _ component click there taken = refl
 
-takes_raw : (b : Plan) → IsWhole b → (marks : List Pos) (p : Pos) (click : Click) → Takes (world_circuit b marks) p click → Takes (graph_circuit (raw b marks)) p click
+pub takes_raw : (b : Plan) → IsWhole b → (marks : List Pos) (p : Pos) (click : Click) → Takes (world_circuit b marks) p click → Takes (graph_circuit (raw b marks)) p click
 takes_raw b whole marks p click t =
     let m = raw_matches b marks whole in
     let found = m.covers t.key t.component t.there in

@@ -4,6 +4,8 @@
 mod commands;
 mod form;
 #[cfg(test)]
+mod graph_tests;
+#[cfg(test)]
 mod row_tests;
 mod status;
 #[cfg(test)]

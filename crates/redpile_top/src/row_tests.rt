@@ -1,7 +1,7 @@
 //! The worked rows that are played, from files of both layouts.
 
 use crate::Status;
-use crate::tests::{NONE, world};
+use crate::tests::{NONE, by, is_refused, run, shows, world, writes};
 use block_table::{Block, parse_state};
 use build::{Build, Pending, Pos};
 use schem_write::{write_build, write_build3};
@@ -9,7 +9,7 @@ use std::alloc::Global;
 use std::process::Abort;
 use std::test::Fail;
 
-type Cell = (i32, i32, i32, &'static str);
+pub(crate) type Cell = (i32, i32, i32, &'static str);
 
 fn put(rt: &impl Abort, build: &mut Build, cells: &[Cell]) {
     for (x, y, z, state) in cells {
@@ -24,14 +24,24 @@ fn put(rt: &impl Abort, build: &mut Build, cells: &[Cell]) {
     }
 }
 
-fn box_of(rt: &impl Abort, alloc: Global, size: [u16; 3], cells: &[Cell]) -> Result<Build, Fail> {
+pub(crate) fn box_of(
+    rt: &impl Abort,
+    alloc: Global,
+    size: [u16; 3],
+    cells: &[Cell],
+) -> Result<Build, Fail> {
     let mut build = Build::new(alloc, size[0], size[1], size[2], 0)?;
     put(rt, &mut build, cells);
     Ok(build)
 }
 
 // A box whose lowest layer is stone.
-fn floored(rt: &impl Abort, alloc: Global, size: [u16; 3], cells: &[Cell]) -> Result<Build, Fail> {
+pub(crate) fn floored(
+    rt: &impl Abort,
+    alloc: Global,
+    size: [u16; 3],
+    cells: &[Cell],
+) -> Result<Build, Fail> {
     let mut build = Build::new(alloc, size[0], size[1], size[2], 0)?;
     for x in 0..size[0] {
         for z in 0..size[2] {
@@ -42,39 +52,66 @@ fn floored(rt: &impl Abort, alloc: Global, size: [u16; 3], cells: &[Cell]) -> Re
     Ok(build)
 }
 
-// The build shows this text by `world`, from a file of each layout.
-fn shows(
+// Asserts that the build shows these views, with these counts, from a file of each layout.
+fn plays(
     rt: &impl Abort,
     alloc: Global,
     build: &Build,
     script: &[u8],
-    text: &[u8],
+    views: &[u8],
+    counts: &[u8],
 ) -> Result<(), Fail> {
     for file in [write_build(alloc, build)?, write_build3(alloc, build)?] {
-        let outcome = world(alloc, &file, script, NONE)?;
-        assert_eq!(rt; outcome.status, Status::Done);
-        assert_eq!(rt; outcome.out.as_slice(), text);
+        shows(rt, alloc, &file, script, views, counts)?;
     }
     Ok(())
 }
 
+const LEVER: &str = "lever[face=wall,facing=west]";
+
+// A block of this state before a stone before a lamp.
+fn before_lamp(rt: &impl Abort, alloc: Global, state: &'static str) -> Result<Build, Fail> {
+    let cells = [
+        (0, 0, 0, state),
+        (1, 0, 0, "stone"),
+        (2, 0, 0, "redstone_lamp"),
+    ];
+    box_of(rt, alloc, [3, 1, 1], &cells)
+}
+
 #[test]
-fn wire_length(rt: HostRuntime) -> Result<(), Fail> {
-    let mut build = floored(
+fn lever_and_lamp(rt: HostRuntime) -> Result<(), Fail> {
+    let build = before_lamp(&rt, rt.alloc(), LEVER)?;
+    plays(
         &rt,
         rt.alloc(),
-        [17, 2, 1],
-        &[(0, 1, 0, "lever[face=floor]")],
-    )?;
+        &build,
+        b"use 0 0 0\ntick 1\nuse 0 0 0\ntick 2",
+        b"outputs 1\n2 0 0 lamp\n0 start 0\n0 use 1\n1 tick 1\n1 use 1\n2 tick 1\n3 tick 0\n",
+        b"nodes 2 links 1 events 3\n",
+    )
+}
+
+// A lever before 16 wires.
+pub(crate) fn long_wire(rt: &impl Abort, alloc: Global) -> Result<Build, Fail> {
+    let lever = [(0, 1, 0, "lever[face=floor]")];
+    let mut build = floored(rt, alloc, [17, 2, 1], &lever)?;
     for x in 1..17i32 {
-        put(&rt, &mut build, &[(x, 1, 0, "redstone_wire")]);
+        put(rt, &mut build, &[(x, 1, 0, "redstone_wire")]);
     }
-    shows(
+    Ok(build)
+}
+
+#[test]
+fn wire_length(rt: HostRuntime) -> Result<(), Fail> {
+    let build = long_wire(&rt, rt.alloc())?;
+    plays(
         &rt,
         rt.alloc(),
         &build,
         b"mark 15 1 0\nmark 16 1 0\nuse 0 1 0",
-        b"outputs 2\n15 1 0 wire\n16 1 0 wire\n0 start 0 0\n0 use 1 0\nend\n",
+        b"outputs 2\n15 1 0 wire\n16 1 0 wire\n0 start 0 0\n0 use 1 0\n",
+        b"nodes 3 links 1 events 1\n",
     )
 }
 
@@ -89,17 +126,18 @@ fn power_goes_up_over_glass(rt: HostRuntime) -> Result<(), Fail> {
         (3, 2, 0, "lever[face=floor]"),
     ];
     let build = floored(&rt, rt.alloc(), [4, 3, 1], &cells)?;
-    shows(
+    plays(
         &rt,
         rt.alloc(),
         &build,
         b"mark 1 1 0\nmark 2 2 0\nuse 0 1 0\nuse 0 1 0\nuse 3 2 0",
-        b"outputs 2\n1 1 0 wire\n2 2 0 wire\n0 start 0 0\n0 use 15 14\n0 use 0 0\n0 use 0 15\nend\n",
+        b"outputs 2\n1 1 0 wire\n2 2 0 wire\n0 start 0 0\n0 use 15 14\n0 use 0 0\n0 use 0 15\n",
+        b"nodes 4 links 3 events 3\n",
     )
 }
 
-#[test]
-fn two_ways_into_one_block(rt: HostRuntime) -> Result<(), Fail> {
+// A wire that powers a block from two sides.
+pub(crate) fn two_ways(rt: &impl Abort, alloc: Global) -> Result<Build, Fail> {
     let cells = [
         (0, 1, 0, "lever[face=floor]"),
         (1, 1, 0, "redstone_wire"),
@@ -110,13 +148,19 @@ fn two_ways_into_one_block(rt: HostRuntime) -> Result<(), Fail> {
         (6, 1, 0, "redstone_lamp"),
         (4, 2, 0, "redstone_wire"),
     ];
-    let build = floored(&rt, rt.alloc(), [7, 3, 1], &cells)?;
-    shows(
+    floored(rt, alloc, [7, 3, 1], &cells)
+}
+
+#[test]
+fn two_ways_into_one_block(rt: HostRuntime) -> Result<(), Fail> {
+    let build = two_ways(&rt, rt.alloc())?;
+    plays(
         &rt,
         rt.alloc(),
         &build,
         b"use 0 1 0\ntick 1",
-        b"outputs 1\n6 1 0 lamp\n0 start 0\n0 use 0\n1 tick 1\nend\n",
+        b"outputs 1\n6 1 0 lamp\n0 start 0\n0 use 0\n1 tick 1\n",
+        b"nodes 3 links 2 events 2\n",
     )
 }
 
@@ -128,17 +172,18 @@ fn short_pulse(rt: HostRuntime) -> Result<(), Fail> {
         (2, 1, 0, "redstone_lamp"),
     ];
     let build = floored(&rt, rt.alloc(), [3, 2, 1], &cells)?;
-    shows(
+    plays(
         &rt,
         rt.alloc(),
         &build,
         b"use 0 1 0\ntick 1\nuse 0 1 0\ntick 9",
-        b"outputs 1\n2 1 0 lamp\n0 start 0\n0 use 0\n1 tick 0\n1 use 0\n2 tick 0\n3 tick 0\n4 tick 1\n5 tick 1\n6 tick 1\n7 tick 1\n8 tick 1\n9 tick 1\n10 tick 0\nend\n",
+        b"outputs 1\n2 1 0 lamp\n0 start 0\n0 use 0\n1 tick 0\n1 use 0\n2 tick 0\n3 tick 0\n4 tick 1\n5 tick 1\n6 tick 1\n7 tick 1\n8 tick 1\n9 tick 1\n10 tick 0\n",
+        b"nodes 3 links 2 events 5\n",
     )
 }
 
-#[test]
-fn back_and_lock(rt: HostRuntime) -> Result<(), Fail> {
+// Two repeaters that one wire feeds: one is behind a third repeater, and one locks it.
+pub(crate) fn locked(rt: &impl Abort, alloc: Global) -> Result<Build, Fail> {
     let cells = [
         (0, 1, 0, "lever[face=floor]"),
         (1, 1, 0, "redstone_wire"),
@@ -150,14 +195,20 @@ fn back_and_lock(rt: HostRuntime) -> Result<(), Fail> {
         (2, 1, 2, "repeater[facing=west]"),
         (3, 1, 2, "redstone_lamp"),
     ];
-    let build = floored(&rt, rt.alloc(), [4, 2, 3], &cells)?;
-    shows(
-        &rt,
-        rt.alloc(),
-        &build,
-        b"use 0 1 0\ntick 3",
-        b"outputs 1\n3 1 2 lamp\n0 start 0\n0 use 0\n1 tick 0\n2 tick 0\n3 tick 0\nend\n",
-    )
+    floored(rt, alloc, [4, 2, 3], &cells)
+}
+
+/// The number of events isn't the same in every order, so no counts are compared.
+#[test]
+fn back_and_lock(rt: HostRuntime) -> Result<(), Fail> {
+    let alloc = rt.alloc();
+    let build = locked(&rt, alloc)?;
+    let text = b"outputs 1\n3 1 2 lamp\n0 start 0\n0 use 0\n1 tick 0\n2 tick 0\n3 tick 0\nend\n";
+    for file in [write_build(alloc, &build)?, write_build3(alloc, &build)?] {
+        let outcome = world(alloc, &file, b"use 0 1 0\ntick 3", NONE)?;
+        writes(&rt, &outcome, text);
+    }
+    Ok(())
 }
 
 const TWINS: [Cell; 6] = [
@@ -172,12 +223,13 @@ const TWINS: [Cell; 6] = [
 #[test]
 fn twins(rt: HostRuntime) -> Result<(), Fail> {
     let build = box_of(&rt, rt.alloc(), [3, 3, 1], &TWINS)?;
-    shows(
+    plays(
         &rt,
         rt.alloc(),
         &build,
         b"use 1 2 0\ntick 3",
-        b"outputs 2\n0 0 0 lamp\n2 0 0 lamp\n0 start 1 1\n0 use 1 1\n1 tick 1 1\n2 tick 1 1\n3 tick 0 0\nend\n",
+        b"outputs 2\n0 0 0 lamp\n2 0 0 lamp\n0 start 1 1\n0 use 1 1\n1 tick 1 1\n2 tick 1 1\n3 tick 0 0\n",
+        b"nodes 4 links 3 events 4\n",
     )
 }
 
@@ -190,49 +242,48 @@ fn wait(rt: &impl Abort, build: &mut Build, pos: Pos, due: u8, priority: u8) {
 fn twins_with_a_pending_tick(rt: HostRuntime) -> Result<(), Fail> {
     let mut build = box_of(&rt, rt.alloc(), [3, 3, 1], &TWINS)?;
     wait(&rt, &mut build, Pos { x: 2, y: 1, z: 0 }, 5, 3);
-    shows(
+    plays(
         &rt,
         rt.alloc(),
         &build,
         b"use 1 2 0\ntick 7",
-        b"outputs 2\n0 0 0 lamp\n2 0 0 lamp\n0 start 1 1\n0 use 1 1\n1 tick 1 1\n2 tick 1 1\n3 tick 0 1\n4 tick 0 1\n5 tick 0 1\n6 tick 0 1\n7 tick 0 0\nend\n",
+        b"outputs 2\n0 0 0 lamp\n2 0 0 lamp\n0 start 1 1\n0 use 1 1\n1 tick 1 1\n2 tick 1 1\n3 tick 0 1\n4 tick 0 1\n5 tick 0 1\n6 tick 0 1\n7 tick 0 0\n",
+        b"nodes 5 links 4 events 5\n",
     )
 }
 
 #[test]
 fn pending_tick_of_a_lamp(rt: HostRuntime) -> Result<(), Fail> {
-    let cells = [
-        (0, 0, 0, "lever[face=wall,facing=west]"),
-        (1, 0, 0, "stone"),
-        (2, 0, 0, "redstone_lamp"),
-    ];
-    let mut build = box_of(&rt, rt.alloc(), [3, 1, 1], &cells)?;
+    let mut build = before_lamp(&rt, rt.alloc(), LEVER)?;
     wait(&rt, &mut build, Pos { x: 2, y: 0, z: 0 }, 1, 3);
-    shows(
+    plays(
         &rt,
         rt.alloc(),
         &build,
         b"tick 1",
-        b"outputs 1\n2 0 0 lamp\n0 start 0\n1 tick 0\nend\n",
+        b"outputs 1\n2 0 0 lamp\n0 start 0\n1 tick 0\n",
+        b"nodes 2 links 1 events 1\n",
     )
 }
 
 #[test]
 fn clock_that_nobody_sees(rt: HostRuntime) -> Result<(), Fail> {
+    let alloc = rt.alloc();
     let cells = [
         (0, 1, 0, "stone"),
         (1, 1, 0, "redstone_wall_torch[facing=east]"),
         (0, 2, 0, "redstone_wire"),
         (1, 2, 0, "stone"),
     ];
-    let build = box_of(&rt, rt.alloc(), [2, 3, 1], &cells)?;
-    shows(
-        &rt,
-        rt.alloc(),
-        &build,
-        b"tick 2",
-        b"outputs 0\n0 start\n1 tick\n2 tick\nend\n",
-    )
+    let build = box_of(&rt, alloc, [2, 3, 1], &cells)?;
+    let views = b"outputs 0\n0 start\n1 tick\n2 tick\n";
+    let counts = b"nodes 0 links 0 events 0\n";
+    plays(&rt, alloc, &build, b"tick 2", views, counts)?;
+    let file = write_build(alloc, &build)?;
+    let outcome = by(alloc, &["run", "a", "b", "--keep"], &file, b"tick 2", NONE)?;
+    let kept = b"outputs 0\n0 start\n1 tick\n2 tick\nnodes 1 links 1 events 2\nend\n";
+    writes(&rt, &outcome, kept);
+    Ok(())
 }
 
 // A barrel of this strength before a comparator, or before a stone before one.
@@ -263,27 +314,33 @@ fn barrel(rt: &impl Abort, alloc: Global, strength: u8, behind_stone: bool) -> R
 #[test]
 fn containers(rt: HostRuntime) -> Result<(), Fail> {
     let alloc = rt.alloc();
-    for (strength, near, far) in [
+    let live = b"nodes 2 links 1 events 1\n";
+    let folded = b"nodes 1 links 0 events 0\n";
+    let rows: [(u8, &[u8], &[u8], &[u8]); 3] = [
         (
             1,
-            b"outputs 1\n2 0 0 wire\n0 start 0\n1 tick 1\nend\n".as_slice(),
-            b"outputs 1\n3 0 0 wire\n0 start 0\n1 tick 1\nend\n".as_slice(),
+            b"outputs 1\n2 0 0 wire\n0 start 0\n1 tick 1\n",
+            b"outputs 1\n3 0 0 wire\n0 start 0\n1 tick 1\n",
+            live,
         ),
         (
             15,
-            b"outputs 1\n2 0 0 wire\n0 start 0\n1 tick 15\nend\n".as_slice(),
-            b"outputs 1\n3 0 0 wire\n0 start 0\n1 tick 15\nend\n".as_slice(),
+            b"outputs 1\n2 0 0 wire\n0 start 0\n1 tick 15\n",
+            b"outputs 1\n3 0 0 wire\n0 start 0\n1 tick 15\n",
+            live,
         ),
         (
             0,
-            b"outputs 1\n2 0 0 wire\n0 start 0\n1 tick 0\nend\n".as_slice(),
-            b"outputs 1\n3 0 0 wire\n0 start 0\n1 tick 0\nend\n".as_slice(),
+            b"outputs 1\n2 0 0 wire\n0 start 0\n1 tick 0\n",
+            b"outputs 1\n3 0 0 wire\n0 start 0\n1 tick 0\n",
+            folded,
         ),
-    ] {
+    ];
+    for (strength, near, far, counts) in rows {
         let build = barrel(&rt, alloc, strength, false)?;
-        shows(&rt, alloc, &build, b"mark 2 0 0\ntick 1", near)?;
+        plays(&rt, alloc, &build, b"mark 2 0 0\ntick 1", near, counts)?;
         let build = barrel(&rt, alloc, strength, true)?;
-        shows(&rt, alloc, &build, b"mark 3 0 0\ntick 1", far)?;
+        plays(&rt, alloc, &build, b"mark 3 0 0\ntick 1", far, counts)?;
     }
     Ok(())
 }
@@ -303,46 +360,39 @@ fn and_gate_from_a_user(rt: HostRuntime) -> Result<(), Fail> {
         (1, 1, 1, "redstone_wire[east=side,west=side,power=15]"),
     ];
     let build = box_of(&rt, rt.alloc(), [3, 2, 4], &cells)?;
-    shows(
+    plays(
         &rt,
         rt.alloc(),
         &build,
         b"use 0 0 0\ntick 4\nuse 2 0 0\ntick 4\nuse 0 0 0\ntick 6",
-        b"outputs 1\n1 0 3 lamp\n0 start 0\n0 use 0\n1 tick 0\n2 tick 0\n3 tick 0\n4 tick 0\n4 use 0\n5 tick 0\n6 tick 1\n7 tick 1\n8 tick 1\n8 use 1\n9 tick 1\n10 tick 1\n11 tick 1\n12 tick 0\n13 tick 0\n14 tick 0\nend\n",
+        b"outputs 1\n1 0 3 lamp\n0 start 0\n0 use 0\n1 tick 0\n2 tick 0\n3 tick 0\n4 tick 0\n4 use 0\n5 tick 0\n6 tick 1\n7 tick 1\n8 tick 1\n8 use 1\n9 tick 1\n10 tick 1\n11 tick 1\n12 tick 0\n13 tick 0\n14 tick 0\n",
+        b"nodes 6 links 5 events 9\n",
     )
-}
-
-// A button before a stone before a lamp.
-fn button(rt: &impl Abort, alloc: Global, state: &'static str) -> Result<Build, Fail> {
-    let cells = [
-        (0, 0, 0, state),
-        (1, 0, 0, "stone"),
-        (2, 0, 0, "redstone_lamp"),
-    ];
-    box_of(rt, alloc, [3, 1, 1], &cells)
 }
 
 #[test]
 fn stone_button(rt: HostRuntime) -> Result<(), Fail> {
-    let build = button(&rt, rt.alloc(), "stone_button[face=wall,facing=west]")?;
-    shows(
+    let build = before_lamp(&rt, rt.alloc(), "stone_button[face=wall,facing=west]")?;
+    plays(
         &rt,
         rt.alloc(),
         &build,
         b"use 0 0 0\nuse 0 0 0\ntick 12",
-        b"outputs 1\n2 0 0 lamp\n0 start 0\n0 use 1\n0 use 1\n1 tick 1\n2 tick 1\n3 tick 1\n4 tick 1\n5 tick 1\n6 tick 1\n7 tick 1\n8 tick 1\n9 tick 1\n10 tick 1\n11 tick 1\n12 tick 0\nend\n",
+        b"outputs 1\n2 0 0 lamp\n0 start 0\n0 use 1\n0 use 1\n1 tick 1\n2 tick 1\n3 tick 1\n4 tick 1\n5 tick 1\n6 tick 1\n7 tick 1\n8 tick 1\n9 tick 1\n10 tick 1\n11 tick 1\n12 tick 0\n",
+        b"nodes 2 links 1 events 4\n",
     )
 }
 
 #[test]
 fn wooden_button(rt: HostRuntime) -> Result<(), Fail> {
-    let build = button(&rt, rt.alloc(), "oak_button[face=wall,facing=west]")?;
-    shows(
+    let build = before_lamp(&rt, rt.alloc(), "oak_button[face=wall,facing=west]")?;
+    plays(
         &rt,
         rt.alloc(),
         &build,
         b"use 0 0 0\ntick 17",
-        b"outputs 1\n2 0 0 lamp\n0 start 0\n0 use 1\n1 tick 1\n2 tick 1\n3 tick 1\n4 tick 1\n5 tick 1\n6 tick 1\n7 tick 1\n8 tick 1\n9 tick 1\n10 tick 1\n11 tick 1\n12 tick 1\n13 tick 1\n14 tick 1\n15 tick 1\n16 tick 1\n17 tick 0\nend\n",
+        b"outputs 1\n2 0 0 lamp\n0 start 0\n0 use 1\n1 tick 1\n2 tick 1\n3 tick 1\n4 tick 1\n5 tick 1\n6 tick 1\n7 tick 1\n8 tick 1\n9 tick 1\n10 tick 1\n11 tick 1\n12 tick 1\n13 tick 1\n14 tick 1\n15 tick 1\n16 tick 1\n17 tick 0\n",
+        b"nodes 2 links 1 events 3\n",
     )
 }
 
@@ -354,12 +404,13 @@ fn weighted_plate(rt: HostRuntime) -> Result<(), Fail> {
         (2, 1, 0, "redstone_wire"),
     ];
     let build = floored(&rt, rt.alloc(), [3, 2, 1], &cells)?;
-    shows(
+    plays(
         &rt,
         rt.alloc(),
         &build,
         b"mark 2 1 0\npress 0 1 0 7\nleave 0 1 0",
-        b"outputs 1\n2 1 0 wire\n0 start 0\n0 press 6\n0 leave 0\nend\n",
+        b"outputs 1\n2 1 0 wire\n0 start 0\n0 press 6\n0 leave 0\n",
+        b"nodes 2 links 1 events 2\n",
     )?;
     let file = write_build(rt.alloc(), &build)?;
     for (script, line) in [
@@ -372,9 +423,8 @@ fn weighted_plate(rt: HostRuntime) -> Result<(), Fail> {
             b"redpile: script: line 1 number\n".as_slice(),
         ),
     ] {
-        let outcome = world(rt.alloc(), &file, script, NONE)?;
-        assert_eq!(rt; outcome.status, Status::BadScript);
-        assert_eq!(rt; outcome.err.as_slice(), line);
+        let outcome = run(rt.alloc(), &file, script, NONE)?;
+        assert!(rt; is_refused(&outcome, Status::BadScript, line));
     }
     Ok(())
 }
@@ -387,12 +437,13 @@ fn note_block_as_output(rt: HostRuntime) -> Result<(), Fail> {
         (2, 0, 0, "note_block"),
     ];
     let build = box_of(&rt, rt.alloc(), [3, 1, 1], &cells)?;
-    shows(
+    plays(
         &rt,
         rt.alloc(),
         &build,
         b"use 0 0 0\ntick 1\nuse 0 0 0",
-        b"outputs 1\n2 0 0 note\n0 start 0\n0 use 1\n1 tick 1\n1 use 0\nend\n",
+        b"outputs 1\n2 0 0 note\n0 start 0\n0 use 1\n1 tick 1\n1 use 0\n",
+        b"nodes 2 links 1 events 2\n",
     )
 }
 
@@ -406,11 +457,12 @@ fn wire_square(rt: HostRuntime) -> Result<(), Fail> {
         (2, 1, 1, "redstone_wire"),
     ];
     let build = floored(&rt, rt.alloc(), [4, 2, 2], &cells)?;
-    shows(
+    plays(
         &rt,
         rt.alloc(),
         &build,
         b"mark 1 1 0\nmark 2 1 1\nuse 0 1 0\nuse 0 1 0",
-        b"outputs 2\n1 1 0 wire\n2 1 1 wire\n0 start 0 0\n0 use 15 13\n0 use 0 0\nend\n",
+        b"outputs 2\n1 1 0 wire\n2 1 1 wire\n0 start 0 0\n0 use 15 13\n0 use 0 0\n",
+        b"nodes 3 links 2 events 2\n",
     )
 }

@@ -4,6 +4,7 @@ use crate::{Status, redpile};
 use rp_io::{Calls, Files, MemInputs, MemSink};
 use rp_text::{Raw, push_u64};
 use std::alloc::{AllocError, Global};
+use std::process::Abort;
 use std::test::Fail;
 
 const EMPTY_BOX: &[u8] =
@@ -12,8 +13,10 @@ const EMPTY_BOX: &[u8] =
 const EMPTY_BOX_LAYOUT_3: &[u8] =
     b"\x0a\x00\x00\x0a\x00\x09Schematic\x03\x00\x07Version\x00\x00\x00\x03\x02\x00\x05Width\x00\x00\x02\x00\x06Height\x00\x00\x02\x00\x06Length\x00\x00\x0a\x00\x06Blocks\x0a\x00\x07Palette\x00\x07\x00\x04Data\x00\x00\x00\x00\x00\x00\x00";
 
-/// What `world` writes of an empty box and one tick.
-const EMPTY_TEXT: &[u8] = b"outputs 0\n0 start\n1 tick\nend\n";
+/// What an empty box shows in one tick.
+const EMPTY_VIEWS: &[u8] = b"outputs 0\n0 start\n1 tick\n";
+
+const EMPTY_COUNTS: &[u8] = b"nodes 0 links 0 events 0\n";
 
 const LEVER: &str = "minecraft:lever[face=wall,facing=west]";
 
@@ -23,25 +26,25 @@ const TORCH: &str = "minecraft:redstone_wall_torch[facing=east]";
 
 const LAMP: &str = "minecraft:redstone_lamp";
 
-/// The fields of a box of one row, but for the end of the root: a palette of these texts, each with
-/// its number, and the bytes of the cells.
+/// The fields of a box of this width, height and length, but for the end of the root: a palette of
+/// these texts, each with its number, and the bytes of the cells.
 fn fields_of(
     alloc: Global,
-    version: u8,
-    width: usize,
+    size: [u8; 3],
     palette: &[(&str, i32)],
     cells: &[u8],
 ) -> Result<Vec<u8>, Fail> {
     let mut file = Vec::from_slice(
         alloc,
-        b"\x0a\x00\x09Schematic\x03\x00\x07Version\x00\x00\x00",
+        b"\x0a\x00\x09Schematic\x03\x00\x07Version\x00\x00\x00\x02",
     )?;
-    file.extend_from_slice(&[version])?;
     file.extend_from_slice(b"\x02\x00\x05Width\x00")?;
-    file.push(width.min(255) as u8)?;
-    file.extend_from_slice(
-        b"\x02\x00\x06Height\x00\x01\x02\x00\x06Length\x00\x01\x0a\x00\x07Palette",
-    )?;
+    file.push(size[0])?;
+    file.extend_from_slice(b"\x02\x00\x06Height\x00")?;
+    file.push(size[1])?;
+    file.extend_from_slice(b"\x02\x00\x06Length\x00")?;
+    file.push(size[2])?;
+    file.extend_from_slice(b"\x0a\x00\x07Palette")?;
     for (text, number) in palette {
         file.extend_from_slice(b"\x03\x00")?;
         file.push(text.len().min(255) as u8)?;
@@ -60,13 +63,14 @@ fn ended(fields: Vec<u8>) -> Result<Vec<u8>, Fail> {
     Ok(file)
 }
 
+/// The file of a row of cells.
 fn box_of(
     alloc: Global,
-    width: usize,
+    width: u8,
     palette: &[(&str, i32)],
     cells: &[u8],
 ) -> Result<Vec<u8>, Fail> {
-    ended(fields_of(alloc, 2, width, palette, cells)?)
+    ended(fields_of(alloc, [width, 1, 1], palette, cells)?)
 }
 
 /// The fields of a row of blocks from west to east, each of another kind.
@@ -77,7 +81,7 @@ fn row_fields(alloc: Global, texts: &[&str]) -> Result<Vec<u8>, Fail> {
         palette.push((*text, number.min(127) as i32))?;
         cells.push(number.min(127) as u8)?;
     }
-    fields_of(alloc, 2, texts.len(), &palette, &cells)
+    fields_of(alloc, [texts.len().min(255) as u8, 1, 1], &palette, &cells)
 }
 
 fn row_of(alloc: Global, texts: &[&str]) -> Result<Vec<u8>, Fail> {
@@ -171,58 +175,119 @@ fn call(
     })
 }
 
+/// What these words do with a build as the file `a` and a script as `b`.
+pub(crate) fn by(
+    alloc: Global,
+    words: &[&str],
+    build: &[u8],
+    script: &[u8],
+    faults: Faults,
+) -> Result<Outcome, Fail> {
+    call(alloc, words, &[("a", build), ("b", script)], faults)
+}
+
+const WORLD: &[&str] = &["world", "a", "b"];
+
+const COMPILE: &[&str] = &["compile", "a", "b"];
+
+const RUN: &[&str] = &["run", "a", "b"];
+
 pub(crate) fn world(
     alloc: Global,
     build: &[u8],
     script: &[u8],
     faults: Faults,
 ) -> Result<Outcome, Fail> {
-    call(
-        alloc,
-        &["world", "a", "b"],
-        &[("a", build), ("b", script)],
-        faults,
-    )
+    by(alloc, WORLD, build, script, faults)
+}
+
+pub(crate) fn compile(
+    alloc: Global,
+    build: &[u8],
+    script: &[u8],
+    faults: Faults,
+) -> Result<Outcome, Fail> {
+    by(alloc, COMPILE, build, script, faults)
+}
+
+pub(crate) fn run(
+    alloc: Global,
+    build: &[u8],
+    script: &[u8],
+    faults: Faults,
+) -> Result<Outcome, Fail> {
+    by(alloc, RUN, build, script, faults)
+}
+
+/// Asserts that this whole text was written, and no line of a fault.
+pub(crate) fn writes(rt: &impl Abort, outcome: &Outcome, text: &[u8]) {
+    assert_eq!(rt; outcome.status, Status::Done);
+    assert_eq!(rt; outcome.out.as_slice(), text);
+    assert_eq!(rt; outcome.err.len(), 0);
+}
+
+fn joined(alloc: Global, pieces: &[&[u8]]) -> Result<Vec<u8>, Fail> {
+    let mut text = Vec::new(alloc);
+    for piece in pieces {
+        text.extend_from_slice(piece)?;
+    }
+    Ok(text)
+}
+
+/// Asserts that `world` writes the header and the views, and `run` these counts too.
+pub(crate) fn shows(
+    rt: &impl Abort,
+    alloc: Global,
+    build: &[u8],
+    script: &[u8],
+    views: &[u8],
+    counts: &[u8],
+) -> Result<(), Fail> {
+    let outcome = world(alloc, build, script, NONE)?;
+    writes(rt, &outcome, &joined(alloc, &[views, b"end\n"])?);
+    let outcome = run(alloc, build, script, NONE)?;
+    writes(rt, &outcome, &joined(alloc, &[views, counts, b"end\n"])?);
+    Ok(())
 }
 
 #[test]
 fn empty_box(rt: HostRuntime) -> Result<(), Fail> {
-    let alloc = rt.alloc();
     assert_eq!(rt; EMPTY_BOX.len(), 86);
-    let outcome = world(alloc, EMPTY_BOX, b"tick 1", NONE)?;
-    assert_eq!(rt; outcome.status, Status::Done);
-    assert_eq!(rt; outcome.out.as_slice(), EMPTY_TEXT);
-    assert_eq!(rt; outcome.err.len(), 0);
-    Ok(())
+    shows(
+        &rt,
+        rt.alloc(),
+        EMPTY_BOX,
+        b"tick 1",
+        EMPTY_VIEWS,
+        EMPTY_COUNTS,
+    )
 }
 
+/// Two clicks of a lever before a lamp.
+const TWO_CLICKS: &[u8] = b"use 0 0 0\ntick 1\nuse 0 0 0\ntick 2\n";
+
+/// From a file of few fields.
 #[test]
 fn lever_and_lamp(rt: HostRuntime) -> Result<(), Fail> {
     let alloc = rt.alloc();
-    let build = row_of(alloc, &[LEVER, STONE, LAMP])?;
-    let outcome = world(
+    shows(
+        &rt,
         alloc,
-        &build,
-        b"use 0 0 0\ntick 1\nuse 0 0 0\ntick 2\n",
-        NONE,
-    )?;
-    assert_eq!(rt; outcome.status, Status::Done);
-    assert_eq!(rt;
-        outcome.out.as_slice(),
-        b"outputs 1\n2 0 0 lamp\n0 start 0\n0 use 1\n1 tick 1\n1 use 1\n2 tick 1\n3 tick 0\nend\n".as_slice()
-    );
-    Ok(())
+        &lever_and_lamp_file(alloc)?,
+        TWO_CLICKS,
+        b"outputs 1\n2 0 0 lamp\n0 start 0\n0 use 1\n1 tick 1\n1 use 1\n2 tick 1\n3 tick 0\n",
+        b"nodes 2 links 1 events 3\n",
+    )
 }
 
 #[test]
 fn lever_and_lamp_one_click(rt: HostRuntime) -> Result<(), Fail> {
     let alloc = rt.alloc();
-    let build = row_of(alloc, &[LEVER, STONE, LAMP])?;
-    let outcome = world(alloc, &build, b"use 0 0 0", NONE)?;
-    assert_eq!(rt; outcome.status, Status::Done);
-    assert_eq!(rt;
-        outcome.out.as_slice(),
-        b"outputs 1\n2 0 0 lamp\n0 start 0\n0 use 1\nend\n".as_slice()
+    let outcome = world(alloc, &lever_and_lamp_file(alloc)?, b"use 0 0 0", NONE)?;
+    writes(
+        &rt,
+        &outcome,
+        b"outputs 1\n2 0 0 lamp\n0 start 0\n0 use 1\nend\n",
     );
     Ok(())
 }
@@ -232,19 +297,40 @@ fn lever_and_lamp_one_click(rt: HostRuntime) -> Result<(), Fail> {
 fn lever_torch_and_lamp(rt: HostRuntime) -> Result<(), Fail> {
     let alloc = rt.alloc();
     let build = row_of(alloc, &[LEVER, STONE, TORCH, LAMP])?;
-    for chunk in [4096usize, 3] {
-        let outcome = world(
-            alloc,
-            &build,
-            b"use 0 0 0\ntick 3\n",
-            Faults { chunk, ..NONE },
-        )?;
-        assert_eq!(rt; outcome.status, Status::Done);
-        assert_eq!(rt;
-            outcome.out.as_slice(),
-            b"outputs 1\n3 0 0 lamp\n0 start 1\n0 use 1\n1 tick 1\n2 tick 1\n3 tick 0\nend\n".as_slice()
-        );
+    let script = b"use 0 0 0\ntick 3\n";
+    let views =
+        b"outputs 1\n3 0 0 lamp\n0 start 1\n0 use 1\n1 tick 1\n2 tick 1\n3 tick 0\n".as_slice();
+    let counts = b"nodes 3 links 2 events 3\n".as_slice();
+    shows(&rt, alloc, &build, script, views, counts)?;
+    let outcome = run(alloc, &build, script, Faults { chunk: 3, ..NONE })?;
+    writes(&rt, &outcome, &joined(alloc, &[views, counts, b"end\n"])?);
+    Ok(())
+}
+
+#[test]
+fn bench_summary(rt: HostRuntime) -> Result<(), Fail> {
+    let alloc = rt.alloc();
+    let rows: [(&str, &[u8]); 2] = [
+        ("1", b"bench 1\non 3 of 4\nnodes 12 links 9 events 0\nend\n"),
+        (
+            "4",
+            b"bench 4\non 9 of 16\nnodes 48 links 36 events 17\nend\n",
+        ),
+    ];
+    for (units, text) in rows {
+        writes(&rt, &call(alloc, &["bench", units], &[], NONE)?, text);
     }
+    Ok(())
+}
+
+#[test]
+fn largest_bench(rt: HostRuntime) -> Result<(), Fail> {
+    let outcome = call(rt.alloc(), &["bench", "4000"], &[], NONE)?;
+    writes(
+        &rt,
+        &outcome,
+        b"bench 4000\non 9000 of 16000\nnodes 48000 links 36000 events 17000\nend\n",
+    );
     Ok(())
 }
 
@@ -252,116 +338,128 @@ fn lever_torch_and_lamp(rt: HostRuntime) -> Result<(), Fail> {
 #[test]
 fn failing_write(rt: HostRuntime) -> Result<(), Fail> {
     let alloc = rt.alloc();
-    let build = row_of(alloc, &[LEVER, STONE, LAMP])?;
-    let outcome = world(
-        alloc,
-        &build,
-        b"use 0 0 0\ntick 1\nuse 0 0 0\ntick 2\n",
-        Faults { out: &[1], ..NONE },
-    )?;
-    assert_eq!(rt; outcome.status, Status::WriteFault);
-    assert_eq!(rt;
-        outcome.out.as_slice(),
-        b"outputs 1\n2 0 0 lamp\n".as_slice()
-    );
-    assert_eq!(rt;
-        outcome.err.as_slice(),
-        b"redpile: write fault\n".as_slice()
-    );
+    let build = lever_and_lamp_file(alloc)?;
+    for words in [RUN, WORLD] {
+        let outcome = by(
+            alloc,
+            words,
+            &build,
+            TWO_CLICKS,
+            Faults { out: &[1], ..NONE },
+        )?;
+        assert_eq!(rt; outcome.status, Status::WriteFault);
+        assert_eq!(rt;
+            outcome.out.as_slice(),
+            b"outputs 1\n2 0 0 lamp\n".as_slice()
+        );
+        assert_eq!(rt;
+            outcome.err.as_slice(),
+            b"redpile: write fault\n".as_slice()
+        );
+    }
     Ok(())
 }
 
-/// Whichever byte of the text fails, those before it were written.
-#[test]
-fn write_fails_at_each_byte(rt: HostRuntime) -> Result<(), Fail> {
-    let alloc = rt.alloc();
-    let build = row_of(alloc, &[LEVER, STONE, LAMP])?;
-    let text = b"outputs 1\n2 0 0 lamp\n0 start 0\n0 use 1\nend\n";
-    for byte in 0..text.len() {
-        let outcome = world(
-            alloc,
-            &build,
-            b"use 0 0 0",
-            Faults {
-                out: &[byte as u64],
-                chunk: 1,
-                ..NONE
-            },
-        )?;
-        assert_eq!(rt; outcome.status, Status::WriteFault, "at {byte}");
-        assert!(rt; outcome.out.as_slice() == &text[..byte], "at {byte}");
-    }
-    let outcome = world(
-        alloc,
-        &build,
-        b"use 0 0 0",
-        Faults {
-            out: &[text.len() as u64],
+/// Asserts that whichever byte of a text of this length fails, those before it were written.
+fn fails_at_each_byte(
+    rt: &impl Abort,
+    alloc: Global,
+    words: &[&str],
+    length: usize,
+) -> Result<(), Fail> {
+    let build = lever_and_lamp_file(alloc)?;
+    let text = by(alloc, words, &build, TWO_CLICKS, NONE)?.out;
+    assert_eq!(rt; text.len(), length, "{words:?}");
+    for byte in 0..=length {
+        let out = &[byte as u64];
+        let faults = Faults {
+            out,
             chunk: 1,
             ..NONE
-        },
-    )?;
-    assert_eq!(rt; outcome.status, Status::Done);
-    assert_eq!(rt; outcome.written, text.len() as u64);
+        };
+        let outcome = by(alloc, words, &build, TWO_CLICKS, faults)?;
+        if byte < length {
+            assert_eq!(rt; outcome.status, Status::WriteFault, "at {byte}");
+            assert!(rt; outcome.out.as_slice() == &text[..byte], "at {byte}");
+            assert_eq!(rt;
+                outcome.err.as_slice(),
+                b"redpile: write fault\n".as_slice()
+            );
+        } else {
+            writes(rt, &outcome, &text);
+            assert_eq!(rt; outcome.written, length as u64);
+        }
+    }
     Ok(())
+}
+
+#[test]
+fn write_fails_at_each_byte(rt: HostRuntime) -> Result<(), Fail> {
+    fails_at_each_byte(&rt, rt.alloc(), RUN, 103)?;
+    fails_at_each_byte(&rt, rt.alloc(), WORLD, 78)?;
+    fails_at_each_byte(&rt, rt.alloc(), COMPILE, 71)?;
+    fails_at_each_byte(&rt, rt.alloc(), &["bench", "1"], 48)
 }
 
 /// Whichever read fails, nothing was written.
 #[test]
 fn read_fails_at_each_call(rt: HostRuntime) -> Result<(), Fail> {
     let alloc = rt.alloc();
-    let build = row_of(alloc, &[LEVER, STONE, LAMP])?;
-    let reads = world(alloc, &build, b"use 0 0 0", NONE)?.read;
-    assert_eq!(rt; reads, 4);
-    for read in 0..reads {
-        let outcome = world(
-            alloc,
-            &build,
-            b"use 0 0 0",
-            Faults {
-                read: &[read],
-                ..NONE
-            },
-        )?;
-        assert_eq!(rt; outcome.status, Status::ReadFault, "at {read}");
-        assert_eq!(rt; outcome.out.len(), 0);
-        assert_eq!(rt; outcome.err.as_slice(), b"redpile: read fault\n".as_slice());
+    let build = lever_and_lamp_file(alloc)?;
+    for words in [RUN, WORLD, COMPILE] {
+        let reads = by(alloc, words, &build, TWO_CLICKS, NONE)?.read;
+        assert_eq!(rt; reads, 4);
+        for read in 0..reads {
+            let read = &[read];
+            let outcome = by(alloc, words, &build, TWO_CLICKS, Faults { read, ..NONE })?;
+            let line = b"redpile: read fault\n";
+            assert!(rt;
+                is_refused(&outcome, Status::ReadFault, line),
+                "at {read:?}"
+            );
+        }
+        let read = &[reads];
+        let outcome = by(alloc, words, &build, TWO_CLICKS, Faults { read, ..NONE })?;
+        assert_eq!(rt; outcome.status, Status::Done);
     }
     Ok(())
 }
 
-/// A fault of the line that tells of a fault changes nothing, and no other file is asked for.
+/// The first read fails, and no name is asked that the words don't have.
 #[test]
 fn outside_faults(rt: HostRuntime) -> Result<(), Fail> {
     let alloc = rt.alloc();
-    let outcome = call(
-        alloc,
-        &["world", "a", "b"],
-        &[],
-        Faults { err: &[0], ..NONE },
-    )?;
-    assert_eq!(rt; outcome.status, Status::ReadFault);
-    assert_eq!(rt; outcome.err.len(), 0);
-    let outcome = call(
-        alloc,
-        &["world", "a", "b"],
-        &[("a", EMPTY_BOX), ("b", b"")],
-        Faults { watch: "c", ..NONE },
-    )?;
-    assert_eq!(rt; outcome.status, Status::Done);
-    assert_eq!(rt; outcome.watched, 0);
+    for words in [RUN, WORLD] {
+        let outcome = call(alloc, words, &[], Faults { read: &[0], ..NONE })?;
+        let line = b"redpile: read fault\n";
+        assert!(rt; is_refused(&outcome, Status::ReadFault, line));
+        let build = lever_and_lamp_file(alloc)?;
+        let outcome = by(
+            alloc,
+            words,
+            &build,
+            TWO_CLICKS,
+            Faults { watch: "c", ..NONE },
+        )?;
+        assert_eq!(rt; outcome.status, Status::Done);
+        assert_eq!(rt; outcome.watched, 0);
+    }
     Ok(())
 }
 
 /// Whether nothing was written but the line of this refusal.
-fn is_refused(outcome: &Outcome, status: Status, line: &[u8]) -> bool {
+pub(crate) fn is_refused(outcome: &Outcome, status: Status, line: &[u8]) -> bool {
     outcome.status == status && outcome.out.is_empty() && outcome.err.as_slice() == line
 }
 
-/// Whether `world` with a script of one tick refuses this file by this status and line.
+/// Whether each command with a script of one tick refuses this file by this status and line.
 fn refuses(alloc: Global, build: &[u8], status: Status, line: &[u8]) -> Result<bool, Fail> {
-    let outcome = world(alloc, build, b"tick 1", NONE)?;
-    Ok(is_refused(&outcome, status, line))
+    let mut refused = true;
+    for words in [RUN, WORLD, COMPILE] {
+        let outcome = by(alloc, words, build, b"tick 1", NONE)?;
+        refused &= is_refused(&outcome, status, line);
+    }
+    Ok(refused)
 }
 
 fn is_bad(alloc: Global, build: &[u8], line: &[u8]) -> Result<bool, Fail> {
@@ -369,7 +467,11 @@ fn is_bad(alloc: Global, build: &[u8], line: &[u8]) -> Result<bool, Fail> {
 }
 
 fn is_accepted(alloc: Global, build: &[u8]) -> Result<bool, Fail> {
-    Ok(world(alloc, build, b"tick 1", NONE)?.status == Status::Done)
+    let mut accepted = true;
+    for words in [RUN, WORLD, COMPILE] {
+        accepted &= by(alloc, words, build, b"tick 1", NONE)?.status == Status::Done;
+    }
+    Ok(accepted)
 }
 
 #[test]
@@ -380,17 +482,17 @@ fn compressed_file(rt: HostRuntime) -> Result<(), Fail> {
     Ok(())
 }
 
+/// A fault of the line that tells of a fault changes nothing.
 #[test]
 fn fault_line_that_fails(rt: HostRuntime) -> Result<(), Fail> {
-    let err = &[0];
-    let outcome = world(
-        rt.alloc(),
-        b"\x1f\x8b\x08",
-        b"tick 1",
-        Faults { err, ..NONE },
-    )?;
-    assert_eq!(rt; outcome.status, Status::BadBuild);
-    assert_eq!(rt; outcome.err.len(), 0);
+    let err = &[0, 1];
+    for words in [RUN, WORLD, COMPILE] {
+        let file = b"\x1f\x8b\x08";
+        let outcome = by(rt.alloc(), words, file, b"tick 1", Faults { err, ..NONE })?;
+        assert_eq!(rt; outcome.status, Status::BadBuild);
+        assert_eq!(rt; outcome.out.len(), 0);
+        assert_eq!(rt; outcome.err.len(), 0);
+    }
     Ok(())
 }
 
@@ -529,10 +631,15 @@ fn hostile_palettes(rt: HostRuntime) -> Result<(), Fail> {
 
 #[test]
 fn empty_box_layout_3(rt: HostRuntime) -> Result<(), Fail> {
-    let outcome = world(rt.alloc(), EMPTY_BOX_LAYOUT_3, b"tick 1", NONE)?;
-    assert_eq!(rt; outcome.status, Status::Done);
-    assert_eq!(rt; outcome.out.as_slice(), EMPTY_TEXT);
-    Ok(())
+    assert_eq!(rt; EMPTY_BOX_LAYOUT_3.len(), 95);
+    shows(
+        &rt,
+        rt.alloc(),
+        EMPTY_BOX_LAYOUT_3,
+        b"tick 1",
+        EMPTY_VIEWS,
+        EMPTY_COUNTS,
+    )
 }
 
 /// Version 3 in layout 2, and version 2 in layout 3.
@@ -565,10 +672,7 @@ fn schematic_beside_version(rt: HostRuntime) -> Result<(), Fail> {
     let mut beside = Vec::from_slice(alloc, &EMPTY_BOX[..12])?;
     beside.extend_from_slice(tag)?;
     beside.extend_from_slice(&EMPTY_BOX[12..])?;
-    let outcome = world(alloc, &beside, b"tick 1", NONE)?;
-    assert_eq!(rt; outcome.status, Status::Done);
-    assert_eq!(rt; outcome.out.as_slice(), EMPTY_TEXT);
-    Ok(())
+    shows(&rt, alloc, &beside, b"tick 1", EMPTY_VIEWS, EMPTY_COUNTS)
 }
 
 #[test]
@@ -601,20 +705,47 @@ fn pending_ticks_in_a_file(rt: HostRuntime) -> Result<(), Fail> {
     for tick in [[0, 0, 0, 1, 3], [2, 0, 0, 16, 3]] {
         assert!(rt; is_bad(alloc, &pending(alloc, tick)?, line)?);
     }
-    let file = pending(alloc, [2, 0, 0, 1, 3])?;
-    let outcome = world(alloc, &file, b"tick 1", NONE)?;
-    assert_eq!(rt; outcome.status, Status::Done);
-    assert_eq!(rt;
-        outcome.out.as_slice(),
-        b"outputs 1\n2 0 0 lamp\n0 start 0\n1 tick 0\nend\n".as_slice()
-    );
+    shows(
+        &rt,
+        alloc,
+        &pending(alloc, [2, 0, 0, 1, 3])?,
+        b"tick 1",
+        b"outputs 1\n2 0 0 lamp\n0 start 0\n1 tick 0\n",
+        b"nodes 2 links 1 events 1\n",
+    )
+}
+
+/// The text of the graph stands before the header.
+#[test]
+fn run_with_its_graph(rt: HostRuntime) -> Result<(), Fail> {
+    let alloc = rt.alloc();
+    let build = pending(alloc, [2, 0, 0, 1, 3])?;
+    let graph =
+        b"graph 2 1\nnode 0 lever 0 0 0 0\nnode 1 lamp 2 0 0 0 due 1 priority 3\nlink 0 1 back 0\n".as_slice();
+    let played =
+        b"outputs 1\n2 0 0 lamp\n0 start 0\n1 tick 0\nnodes 2 links 1 events 1\nend\n".as_slice();
+    let text = joined(alloc, &[graph, played])?;
+    let flags: [&[&str]; 2] = [
+        &["run", "a", "b", "--graph"],
+        &["run", "a", "b", "--graph", "--keep"],
+    ];
+    for words in flags {
+        writes(&rt, &by(alloc, words, &build, b"tick 1", NONE)?, &text);
+    }
+    let outcome = compile(alloc, &build, b"tick 1", NONE)?;
+    writes(&rt, &outcome, &joined(alloc, &[graph, b"end\n"])?);
     Ok(())
 }
 
-/// Whether `world` over the lever and the lamp refuses this script by this line.
+/// Whether each command over the lever and the lamp refuses this script by this line.
 fn is_bad_script(alloc: Global, text: &[u8], line: &[u8]) -> Result<bool, Fail> {
-    let outcome = world(alloc, &lever_and_lamp_file(alloc)?, text, NONE)?;
-    Ok(is_refused(&outcome, Status::BadScript, line))
+    let build = lever_and_lamp_file(alloc)?;
+    let mut refused = true;
+    for words in [RUN, WORLD, COMPILE] {
+        let outcome = by(alloc, words, &build, text, NONE)?;
+        refused &= is_refused(&outcome, Status::BadScript, line);
+    }
+    Ok(refused)
 }
 
 /// The rows `bad_scripts`, and those of hostile files that are about scripts.
@@ -640,12 +771,8 @@ fn bad_scripts(rt: HostRuntime) -> Result<(), Fail> {
     for (text, line) in rows {
         assert!(rt; is_bad_script(alloc, text, line)?, "{text:?}");
     }
-    let outcome = world(
-        alloc,
-        &lever_and_lamp_file(alloc)?,
-        b"# a comment\n\n  use\t0 0 0 \r\ntick 1",
-        NONE,
-    )?;
+    let script = b"# a comment\n\n  use\t0 0 0 \r\ntick 1";
+    let outcome = run(alloc, &lever_and_lamp_file(alloc)?, script, NONE)?;
     assert_eq!(rt; outcome.status, Status::Done);
     Ok(())
 }
@@ -654,9 +781,11 @@ fn bad_scripts(rt: HostRuntime) -> Result<(), Fail> {
 #[test]
 fn one_name_twice(rt: HostRuntime) -> Result<(), Fail> {
     let alloc = rt.alloc();
-    let outcome = call(alloc, &["world", "a", "a"], &[("a", EMPTY_BOX)], NONE)?;
     let line = b"redpile: script: line 2 word\n";
-    assert!(rt; is_refused(&outcome, Status::BadScript, line));
+    for command in ["run", "world", "compile"] {
+        let outcome = call(alloc, &[command, "a", "a"], &[("a", EMPTY_BOX)], NONE)?;
+        assert!(rt; is_refused(&outcome, Status::BadScript, line));
+    }
     Ok(())
 }
 
@@ -665,18 +794,47 @@ fn is_usage(alloc: Global, words: &[&str]) -> Result<bool, Fail> {
     Ok(is_refused(&outcome, Status::Usage, b"redpile: usage\n"))
 }
 
+/// Asserts that these words have no form.
+fn all_are_usage(rt: &impl Abort, alloc: Global, rows: &[&[&str]]) -> Result<(), Fail> {
+    for words in rows {
+        assert!(rt; is_usage(alloc, words)?, "{words:?}");
+    }
+    Ok(())
+}
+
 #[test]
 fn usage(rt: HostRuntime) -> Result<(), Fail> {
-    let alloc = rt.alloc();
-    assert!(rt; is_usage(alloc, &[])?);
-    assert!(rt; is_usage(alloc, &["world"])?);
-    assert!(rt; is_usage(alloc, &["world", "a"])?);
-    assert!(rt; is_usage(alloc, &["world", "a", "b", "c"])?);
-    assert!(rt; is_usage(alloc, &["World", "a", "b"])?);
-    assert!(rt; is_usage(alloc, &["run", "a", "b"])?);
-    assert!(rt; is_usage(alloc, &["--help", "a", "b"])?);
-    assert!(rt; !is_usage(alloc, &["world", "a", "b"])?);
-    Ok(())
+    let words: [&[&str]; 11] = [
+        &[],
+        &["world"],
+        &["world", "a"],
+        &["run", "a"],
+        &["compile", "a"],
+        &["World", "a", "b"],
+        &["--help", "a", "b"],
+        &["bench"],
+        &["bench", "0"],
+        &["bench", "4001"],
+        &["bench", "1", "1"],
+    ];
+    all_are_usage(&rt, rt.alloc(), &words)
+}
+
+#[test]
+fn usage_of_flags(rt: HostRuntime) -> Result<(), Fail> {
+    let words: [&[&str]; 10] = [
+        &["world", "a", "b", "c"],
+        &["world", "a", "b", "--keep"],
+        &["compile", "a", "b", "--graph"],
+        &["run", "a", "b", "--Keep"],
+        &["run", "--keep", "a", "b"],
+        &["run", "a", "b", "--keep", "--graph"],
+        &["run", "a", "b", "--graph", "--graph"],
+        &["run", "a", "b", "--keep", "--keep"],
+        &["world", "a", "b", "--graph", "--keep"],
+        &["run", "a", "b", "--graph", "--keep", "--keep"],
+    ];
+    all_are_usage(&rt, rt.alloc(), &words)
 }
 
 /// A script of 1,048,576 bytes is read, and one byte more is refused.
@@ -684,10 +842,10 @@ fn usage(rt: HostRuntime) -> Result<(), Fail> {
 fn longest_comment(rt: HostRuntime) -> Result<(), Fail> {
     let alloc = rt.alloc();
     let mut text = vec![in alloc; b'#'; 1_048_576]?;
-    let outcome = world(alloc, EMPTY_BOX, &text, NONE)?;
+    let outcome = run(alloc, EMPTY_BOX, &text, NONE)?;
     assert_eq!(rt; outcome.status, Status::Done);
     text.push(b'#')?;
-    let outcome = world(alloc, EMPTY_BOX, &text, NONE)?;
+    let outcome = run(alloc, EMPTY_BOX, &text, NONE)?;
     let line = b"redpile: script: line 0 too long\n";
     assert!(rt; is_refused(&outcome, Status::BadScript, line));
     Ok(())
@@ -698,7 +856,9 @@ fn longest_comment(rt: HostRuntime) -> Result<(), Fail> {
 fn longest_build(rt: HostRuntime) -> Result<(), Fail> {
     let alloc = rt.alloc();
     let file = vec![in alloc; 10; 67_108_865]?;
-    assert!(rt; is_bad(alloc, &file, b"redpile: build: too long\n")?);
+    let outcome = run(alloc, &file, b"tick 1", NONE)?;
+    let line = b"redpile: build: too long\n";
+    assert!(rt; is_refused(&outcome, Status::BadBuild, line));
     Ok(())
 }
 

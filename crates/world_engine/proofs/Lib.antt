@@ -17,3 +17,4 @@ pub mod AttendSteps
 pub mod Playing
 pub mod Settling
 pub mod Starting
+pub mod Storing

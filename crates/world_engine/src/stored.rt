@@ -1,67 +1,64 @@
 //! What a build holds before the start.
 
-ghost use Rattle.std.specs.Prelude.{◌≡◌, All, IfOk, length};
+ghost use Rattle.std.specs.Prelude.{◌≡◌, [], ◌∷◌, List, All, IfOk, length};
+ghost use Rattle.build.specs.declared.Pending.{Pending};
+ghost use Rattle.build.specs.Roles.{stored};
 ghost use Rattle.cell_queue.specs.Held.{IsSoon};
-ghost use Rattle.build.specs.Place.{same_place};
-ghost use Rattle.build.specs.Roles.{waiting_at, cell_with, stored};
 ghost use Rattle.world_engine.specs.Things.{state_by};
+ghost use Rattle.world_engine.specs.Stores.{AreStored, stored_with};
 
 use crate::things::Things;
 use build::Pending;
+use cell_queue::NOTHING;
 use circuit::{Cell, Pos};
 use power_rules::stored_value;
 use rp_text::NoMemory;
 use std::alloc::Global;
 
-fn is_at(tick: &Pending, pos: Pos) -> bool
-    ensures { result ≡ same_place tick.now.pos pos }
-{
-    tick.pos == pos
-}
-
-// The tick that is pending at a place before the start.
-fn waiting_at(ticks: &[Pending], pos: Pos) -> Option<Pending>
-    ensures { result ≡ waiting_at ticks.now pos }
-{
-    for tick in ticks {
-        if is_at(tick, pos) {
-            return Some(*tick);
-        }
-    }
-    None
-}
-
-fn cell_with(value: u8, tick: Option<Pending>) -> Cell
-    ensures { result ≡ cell_with value tick }
-{
-    match tick {
-        Some(tick) => Cell {
-            value,
-            due: u64::from(tick.due),
-            priority: tick.priority,
-        },
-        None => Cell {
-            value,
-            due: 0,
-            priority: 0,
-        },
-    }
-}
-
-#[tactic(auto, unfolding(build::specs::Roles::stored))]
-fn stored(things: &Things, pos: Pos) -> Cell
-    ensures { result ≡ stored things.now.plan things.now.marks pos }
+// What a place holds before the start, its tick left out.
+#[tactic(auto, unfolding(crate::specs::Stores::stored_with))]
+fn without_tick(things: &Things, pos: Pos) -> Cell
+    ensures { result ≡ stored_with things.now [] pos }
 {
     match things.role(pos) {
-        Some(_) => cell_with(
-            stored_value(things.build(), pos),
-            waiting_at(things.build().pending(), pos),
-        ),
-        None => Cell {
-            value: 0,
+        Some(_) => Cell {
+            value: stored_value(things.build(), pos),
             due: 0,
             priority: 0,
         },
+        None => NOTHING,
+    }
+}
+
+// Gives a thing its pending tick.
+fn put_tick(things: &Things, tick: Pending, cells: &mut [Cell])
+    requires { length cells.old ≡ length things.now.spots }
+    ensures { (rest : List Pending) → AreStored things.now rest cells.old → AreStored things.now (tick ∷ rest) cells.new }
+{
+    let _ = things.count();
+    let Some(_component) = things.role(tick.pos) else {
+        return;
+    };
+    let Some(number) = things.number(tick.pos) else {
+        return;
+    };
+    let value = cells[number].value;
+    cells[number] = Cell {
+        value,
+        due: u64::from(tick.due),
+        priority: tick.priority,
+    };
+}
+
+// Gives the things their pending ticks.
+fn put_ticks(things: &Things, cells: &mut [Cell])
+    requires whole { length cells.old ≡ length things.now.spots }
+    requires stored { AreStored things.now [] cells.old }
+    ensures { AreStored things.now things.now.plan.pending cells.new }
+{
+    let pending = things.build().pending();
+    for index in (0..pending.len()).rev() {
+        put_tick(things, pending[index], cells);
     }
 }
 
@@ -73,7 +70,8 @@ pub(crate) fn stored_cells(alloc: Global, things: &Things) -> Result<Vec<Cell>, 
 {
     let mut cells = Vec::with_capacity(alloc, things.count())?;
     for number in 0..things.count() {
-        cells.push(stored(things, things.spot(number)))?;
+        cells.push(without_tick(things, things.spot(number)))?;
     }
+    put_ticks(things, &mut cells);
     Ok(cells)
 }

@@ -1,5 +1,5 @@
-use Rattle.std.proofs.Common.{◌≡◌, ◌<◌, ℕ, length, get_or}
-use Rattle.build.specs.Roles.{stored}
+use Rattle.std.proofs.Common.{◌≡◌, ◌<◌, ℕ, [], length, get_or}
+use Rattle.world_engine.specs.Stores.{stored_with}
 use Rattle.world_engine.specs.Things.{nothing}
 use Rattle.world_engine.specs.Running.{spot}
 use Rattle.world_engine.proofs.stored.stored_cells.Given as goal
@@ -7,5 +7,5 @@ use Rattle.world_engine.proofs.stored.stored_cells.Given as goal
 abbrev pub invariant-loop-number : goal.invariant-loop-number
 invariant-loop-number l = record {
   whole : length l.cells.items ≡ l.number;
-  stored : (k : ℕ) → k < l.number → get_or l.cells.items k nothing ≡ stored l.things.plan l.things.marks (spot l.things k);
+  stored : (k : ℕ) → k < l.number → get_or l.cells.items k nothing ≡ stored_with l.things [] (spot l.things k);
 }
