@@ -13,7 +13,9 @@ use block_table::{Block, Side};
 use build::{Build, Marks, Pending};
 use circuit::Pos;
 use graph::{Graph, Kind, Links, Node, Places};
-use power_rules::{button_delay, component, direct_strength, faces_diode, far_strength, stored_value};
+use power_rules::{
+    button_delay, component, direct_strength, faces_diode, far_strength, stored_value,
+};
 use rp_text::NoMemory;
 use smallvec::SmallVec;
 use std::alloc::Global;

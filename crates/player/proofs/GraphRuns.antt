@@ -173,7 +173,7 @@ pub stopped_front : (g : Nodes) (front header : List ℕ) (acts : List Act) (cou
     WrotePrefix before now front → WroteGraphRunPrefix g front header acts before now
 stopped_front g front header acts counts before now nodes links taken wrote =
     let some = stopped_first (graph_circuit g) (reads_of g) header acts (λ events. run_trailer (with_events counts events)) before 0 (appended before []) (graph_is_listed g) (taken-steps_of (graph_circuit g) acts taken)
-        (record { front = []; rest = header; split = refl; wrote = refl }) in
+    (record { front = []; rest = header; split = refl; wrote = refl }) in
     record {
       views = some.views;
       counts = with_events counts some.events;

@@ -142,9 +142,7 @@ fn put_behind<O: Sink, L: Ledger>(
     ensures cause { HasCause (O.faults out.old) (O.faults out.new) result }
 {
     put_all(out, front)?;
-    put_run(
-        header, counts, script, machine, values, line, out, steps,
-    )
+    put_run(header, counts, script, machine, values, line, out, steps)
 }
 
 /// Plays a script on a graph, behind some bytes that are written first: the header of these

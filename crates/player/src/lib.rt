@@ -10,8 +10,8 @@ mod graph_run;
 mod lines;
 mod world_run;
 
-pub use graph_run::{GraphRun, play, play_behind};
 pub use graph_machine::Steps;
+pub use graph_run::{GraphRun, play, play_behind};
 pub use world_run::play_world;
 
 /// Why a run wasn't written whole.

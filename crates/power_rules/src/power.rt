@@ -61,10 +61,8 @@ pub fn strong<L: Levels>(build: &Build, levels: &L, from: Pos, side: Side) -> u8
     let level = levels.level(from);
     match build.at(from) {
         Block::Torch { .. } | Block::WallTorch { .. } if same_side(side, Side::Up) => full(level),
-        Block::Lever { face, facing, .. } | Block::Button { face, facing, .. } if same_side(
-            side,
-            hung(face, facing),
-        ) => full(level),
+        Block::Lever { face, facing, .. } | Block::Button { face, facing, .. }
+            if same_side(side, hung(face, facing)) => full(level),
         Block::Plate { .. } if same_side(side, Side::Down) => full(level),
         Block::Weighted { .. } if same_side(side, Side::Down) => level,
         Block::Repeater { .. } | Block::Comparator { .. } | Block::Wire { .. } => {

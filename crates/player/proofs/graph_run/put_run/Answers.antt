@@ -100,6 +100,6 @@ returns-clause-done g c =
     let now = g.O.Sink.written c.put_trailer.new.out in
     let wrote = subst (λ (n : ℕ). Wrote (g.O.Sink.written c.loop-step.out) now (run_trailer (with_events c.args.counts n))) c.events.ensures c.in_ok-put_trailer.ensures.all in
     let done = ended_steps nodes c.args.header.now c.args.counts acts before c.args.steps.now c.requires.nodes c.requires.links (g.O.Sink.written c.loop-step.out) now c.loop-step.machine.time c.loop-step.machine.events c.loop-step.steps
-        (state_in c.loop-step.machine) (steps_left c.loop-step.step-iterator) c.loop-step.invariant.going none wrote in
+    (state_in c.loop-step.machine) (steps_left c.loop-step.step-iterator) c.loop-step.invariant.going none wrote in
     subst (λ (n : ℕ). EndedWith nodes [] c.args.header.now acts (with_events c.args.counts n) c.loop-step.values before now c.args.steps.now c.loop-step.steps) (sym c.events.ensures)
     (subst (λ (v : List ℕ). EndedWith nodes [] c.args.header.now acts (with_events c.args.counts c.loop-step.machine.events) v before now c.args.steps.now c.loop-step.steps) (sym c.loop-step.invariant.values) done)
