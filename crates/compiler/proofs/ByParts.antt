@@ -1,6 +1,5 @@
 -- The steps of the passes are those of the compiler, and the other way round.
-use Rattle.std.proofs.Common.{◌≡◌, Bool, true, false, refl, ◌⊎◌, inl, inr, Err}
-use Rattle.rp_text.specs.declared.NoMemory.{NoMemory}
+use Rattle.std.proofs.Common.{◌≡◌, Bool, true, false, refl, ◌⊎◌, inl, inr}
 use Rattle.graph.specs.Graph.{Nodes}
 use Rattle.graph.specs.Sound.{IsSound}
 use Rattle.graph.specs.Refines.{Refines}

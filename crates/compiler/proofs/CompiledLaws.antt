@@ -1,6 +1,5 @@
 -- What a compiled graph keeps of its build.
-use Rattle.std.proofs.Common.{◌≡◌, ℕ, Bool, true, false, List, [], ◌∷◌, refl, sym, ap, subst, ◌∙◌, Option, Some, None, Err}
-use Rattle.rp_text.specs.declared.NoMemory.{NoMemory}
+use Rattle.std.proofs.Common.{◌≡◌, ℕ, true, false, List, [], ◌∷◌, refl, sym, ap, ◌∙◌, Option, Some, None, Err}
 use Rattle.circuit.specs.declared.Act.{Act}
 use Rattle.circuit.specs.declared.Act.TheVariants.{Click as ClickAct, Ticks as TicksAct}
 use Rattle.circuit.specs.declared.Click.{Click}
@@ -15,7 +14,7 @@ use Rattle.graph.specs.declared.Kind.{Kind}
 use Rattle.graph.specs.declared.Kind.TheVariants.{Torch, Repeater, Comparator, Constant}
 use Rattle.graph.specs.Graph.{Node, Nodes, node_at}
 use Rattle.graph.specs.GraphCircuit.{graph_circuit, role_of, role_at, place_at}
-use Rattle.graph.specs.Refines.{Refines, StandsAt, is_outer}
+use Rattle.graph.specs.Refines.{Refines, is_outer}
 use Rattle.graph.specs.Done.{Step}
 use Rattle.graph.specs.Sound.{IsSound}
 use Rattle.pass_frame.proofs.FrameSteps.{ran_sound, ran_refines}

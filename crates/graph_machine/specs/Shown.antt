@@ -2,7 +2,6 @@
 use Rattle.std.specs.Prelude.{ℕ, Option, Some, None}
 use Rattle.circuit.specs.declared.Cell.{Cell}
 use Rattle.circuit.specs.declared.Component.{Component}
-use Rattle.circuit.specs.declared.Readings.{Readings}
 use Rattle.circuit.specs.Circuit.{seen_at}
 use Rattle.graph.specs.Graph.{Node, node_at}
 use Rattle.graph.specs.GraphCircuit.{role_of, role_at}

@@ -1,6 +1,5 @@
 -- How the writing of a run of a graph goes on.
-use Rattle.std.proofs.Common.{◌≡◌, ℕ, ◌+◌, ◌*◌, ◌≤◌, List, [], ◌∷◌, ◌++◌, length, refl, sym, ap, subst, ◌∙◌, arith, Option}
-use Rattle.std.specs.Prelude.{sum_by}
+use Rattle.std.proofs.Common.{◌≡◌, ℕ, ◌+◌, ◌≤◌, List, [], ◌∷◌, length, refl, sym, ap, subst, ◌∙◌, arith, Option}
 use Rattle.std.proofs.Common.{zero, suc}
 use Rattle.std.proofs.lemmas.List.Sums.{sum_by-cons}
 use Rattle.circuit.specs.declared.Act.{Act}
@@ -8,10 +7,10 @@ use Rattle.circuit.specs.declared.Act.TheVariants.{Click as ClickAct, Ticks as T
 use Rattle.circuit.specs.declared.Step.{Step}
 use Rattle.circuit.specs.declared.Step.TheVariants.{Click as ClickAt, Tick as OneTick}
 use Rattle.circuit.specs.Circuit.{Circuit, State, start, view}
-use Rattle.circuit.specs.Shows.{steps_of, ticks, Plays}
+use Rattle.circuit.specs.Shows.{steps_of, ticks}
 use Rattle.circuit.specs.Taken.{EachTaken, EachActTaken}
 use Rattle.circuit.proofs.Runs.{taken-steps_of}
-use Rattle.rp_io.specs.Causes.{appended, Wrote, WrotePrefix}
+use Rattle.rp_io.specs.Causes.{appended, WrotePrefix}
 use Rattle.rp_io.proofs.Written.{wrote_both, prefix_more, prefix_after}
 use Rattle.graph.specs.Graph.{Nodes, node_count, link_count}
 use Rattle.graph.specs.GraphCircuit.{graph_circuit}
@@ -24,9 +23,8 @@ use Rattle.report.specs.declared.Counts.{Counts}
 use Rattle.report.specs.Trailers.{run_trailer}
 use Rattle.report.specs.ViewLine.{view_line}
 use Rattle.script.specs.Acts.{ticks_of, ticks_in}
-use Rattle.player.specs.Cost.{cost_of_run}
 use Rattle.player.specs.Moments.{Moment, moment_after, run_text}
-use Rattle.player.specs.Played.{StepTo, TakesStep, with_events, last_view, ShowsCounted, WroteGraphRun, WroteGraphRunPrefix, EndedWith}
+use Rattle.player.specs.Played.{StepTo, TakesStep, with_events, WroteGraphRunPrefix, EndedWith}
 use Rattle.player.proofs.Going.{Going, Finished, Stopped, moment_line, events_of, cost_of, going_start, going_on, stopped_at, stopped_first, stopped_start, ended, stopped_last, last_of_plays}
 
 -- ---- how many steps there are

@@ -3,17 +3,15 @@ use Rattle.std.proofs.Common.{◌≡◌, ℕ, ◌+◌, List, [], ◌∷◌, refl
 use Rattle.circuit.specs.declared.Pos.{Pos}
 use Rattle.circuit.specs.declared.Step.{Step}
 use Rattle.circuit.specs.Circuit.{Circuit, State, start, view}
-use Rattle.circuit.specs.Shows.{steps_of, Plays, clicks_in, fires_in}
+use Rattle.circuit.specs.Shows.{steps_of}
 use Rattle.circuit.specs.Taken.{EachTaken}
 use Rattle.rp_io.specs.Causes.{appended, WrotePrefix}
 use Rattle.build.specs.Plan.{Plan}
-use Rattle.build.specs.Outputs.{outputs}
 use Rattle.report.specs.declared.Cause.{Cause}
 use Rattle.report.specs.declared.Cause.TheVariants.{Start}
-use Rattle.report.specs.Header.{header}
 use Rattle.report.specs.Trailers.{world_trailer}
 use Rattle.report.specs.ViewLine.{view_line}
-use Rattle.power_rules.specs.World.{world_circuit, shows}
+use Rattle.power_rules.specs.World.{world_circuit}
 use Rattle.power_rules.proofs.Listed.{world_listed}
 use Rattle.world_engine.specs.Running.{Running, state_in}
 use Rattle.script.specs.Acts.{Meaning}

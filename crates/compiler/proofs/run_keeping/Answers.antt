@@ -1,5 +1,4 @@
 use Rattle.pass_frame.proofs.FrameSteps.{ran_reaches}
-use Rattle.graph.specs.Done.{Step}
 use Rattle.compiler.proofs.ByParts.{Keeping, kept_steps, kept_done}
 use Rattle.compiler.proofs.run_keeping.Goals as goal
 

@@ -1,5 +1,4 @@
 use Rattle.pass_frame.proofs.FrameSteps.{ran_reaches}
-use Rattle.graph.specs.Done.{Step}
 use Rattle.compiler.proofs.ByParts.{Pruning, pruned_steps, pruned_done}
 use Rattle.compiler.proofs.run_pruning.Goals as goal
 

@@ -1,5 +1,3 @@
-use Rattle.std.proofs.Common.{[]}
-use Rattle.player.specs.Played.{EndedWith, WroteGraphRunPrefix}
 use Rattle.player.proofs.Going.{on_err_holds, on_err_then, if_ok_then}
 use Rattle.player.proofs.GraphRuns.{behind, part_behind, stopped_front}
 use Rattle.player.proofs.graph_run.put_behind.Goals as goal

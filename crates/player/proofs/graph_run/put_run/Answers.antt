@@ -1,4 +1,4 @@
-use Rattle.std.proofs.Common.{◌≡◌, ◌+◌, ◌≤◌, ℕ, List, ◌∷◌, [], length, refl, sym, ap, subst, ◌∙◌, arith}
+use Rattle.std.proofs.Common.{◌≡◌, ℕ, List, ◌∷◌, [], length, refl, sym, ap, subst, ◌∙◌, arith}
 use Rattle.circuit.specs.Circuit.{view}
 use Rattle.circuit.specs.Shows.{steps_of}
 use Rattle.circuit.specs.Taken.{EachTaken}
@@ -13,7 +13,7 @@ use Rattle.rp_io.specs.Causes.{Wrote, WrotePrefix}
 use Rattle.report.specs.Trailers.{run_trailer}
 use Rattle.player.proofs.Scripts.{tick_count-steps_of}
 use Rattle.player.proofs.Going.{taken_first, taken_after, time_after, on_err_holds}
-use Rattle.player.proofs.GraphRuns.{GoingGraph, length-steps_of, going_begins, going_steps, stopped_header, stopped_begins, stopped_steps, stopped_trailer, ended_steps}
+use Rattle.player.proofs.GraphRuns.{length-steps_of, going_begins, going_steps, stopped_header, stopped_begins, stopped_steps, stopped_trailer, ended_steps}
 use Rattle.player.proofs.graph_run.put_run.Goals as goal
 
 pub returns-in_err-put_all-clause-front : goal.returns-in_err-put_all-clause-front
