@@ -56,7 +56,7 @@ outer_takes (Comparator subtract direct far) component click there taken = absur
 outer_takes Constant component click there taken = absurd (cc)
 outer_takes _ component click there taken = refl
 
-pub takes_raw : (b : Plan) → IsWhole b → (marks : List Pos) (p : Pos) (click : Click) → Takes (world_circuit b marks) p click → Takes (graph_circuit (raw b marks)) p click
+takes_raw : (b : Plan) → IsWhole b → (marks : List Pos) (p : Pos) (click : Click) → Takes (world_circuit b marks) p click → Takes (graph_circuit (raw b marks)) p click
 takes_raw b whole marks p click t =
     let m = raw_matches b marks whole in
     let found = m.covers t.key t.component t.there in
@@ -67,6 +67,16 @@ takes_raw b whole marks p click t =
       place = found.2 ∙ t.place;
       taken = t.taken;
     }
+
+-- The raw graph is sound, and takes each click that its build takes.
+pub raw_is_sound : (b : Plan) → IsWhole b → (marks : List Pos) (g : Nodes) → g ≡ raw b marks → IsSound g
+raw_is_sound b whole marks g is = subst IsSound (sym is) (raw_sound b whole marks)
+
+pub raw_takes : (b : Plan) → IsWhole b → (marks : List Pos) (g : Nodes) → g ≡ raw b marks → (acts : List Act) → EachActTaken (world_circuit b marks) acts → EachActTaken (graph_circuit g) acts
+raw_takes b whole marks g is [] taken = tt
+raw_takes b whole marks g is (ClickAct pos click ∷ acts) taken =
+    (subst (λ (nodes : Nodes). Takes (graph_circuit nodes) pos click) (sym is) (takes_raw b whole marks pos click taken.0), raw_takes b whole marks g is acts taken.1)
+raw_takes b whole marks g is (TicksAct n ∷ acts) taken = raw_takes b whole marks g is acts taken
 
 takes_kept : (old new : Nodes) → Refines old new → (p : Pos) (click : Click) → Takes (graph_circuit old) p click → Takes (graph_circuit new) p click
 takes_kept old new r p click t = by_node (node_at old t.key) refl t.there t.place

@@ -135,7 +135,7 @@ fn comparator_off_its_goal_stays(rt: HostRuntime) -> Result<(), Fail> {
     )
 }
 
-/// Asserts that the raw graph has this text, and that its run by a script writes another.
+// As `shows_raw`, with a counter of its own.
 fn plays_raw<L: Ledger>(
     rt: &impl Abort,
     alloc: Global,
@@ -167,28 +167,38 @@ fn plays_raw<L: Ledger>(
     Ok(())
 }
 
+/// Asserts that the raw graph has this text, and that its run by a script writes another.
+fn shows_raw(
+    rt: &impl Abort,
+    alloc: Global,
+    build: &Build,
+    script: &[u8],
+    graph_text: &[u8],
+    text: &[u8],
+) -> Result<(), Fail> {
+    plays_raw::<Brand>(rt, alloc, build, script, graph_text, text, Blank::new(1))
+}
+
 #[test]
 fn raw_graph_of_wire_length(rt: HostRuntime) -> Result<(), Fail> {
-    plays_raw::<Brand>(
+    shows_raw(
         &rt,
         rt.alloc(),
         &long_wire(&rt, rt.alloc())?,
         b"mark 15 1 0\nmark 16 1 0\nuse 0 1 0",
         b"graph 3 2\nnode 0 lever 0 1 0 0\nnode 1 wire 15 1 0 0\nnode 2 wire 16 1 0 0\nlink 0 1 back 14\nlink 0 2 back 15\n",
         b"outputs 2\n15 1 0 wire\n16 1 0 wire\n0 start 0 0\n0 use 1 0\nnodes 3 links 2 events 1\nend\n",
-        Blank::new(1),
     )
 }
 
 #[test]
 fn raw_graph_of_two_ways(rt: HostRuntime) -> Result<(), Fail> {
-    plays_raw::<Brand>(
+    shows_raw(
         &rt,
         rt.alloc(),
         &two_ways(&rt, rt.alloc())?,
         b"use 0 1 0\ntick 1",
         b"graph 3 3\nnode 0 lever 0 1 0 0\nnode 1 comparator 5 1 0 0 compare\nnode 2 lamp 6 1 0 0\nlink 0 1 back 3\nlink 0 1 back 2\nlink 1 2 back 0\n",
         b"outputs 1\n6 1 0 lamp\n0 start 0\n0 use 0\n1 tick 1\nnodes 3 links 3 events 2\nend\n",
-        Blank::new(1),
     )
 }

@@ -1,7 +1,7 @@
 //! The worked rows that are played, from files of both layouts.
 
 use crate::Status;
-use crate::tests::{NONE, by, is_refused, run, shows, world, writes};
+use crate::tests::{NONE, by, gate_file, is_refused, run, shows, world, writes};
 use block_table::{Block, parse_state};
 use build::{Build, Pending, Pos};
 use schem_write::{write_build, write_build3};
@@ -345,6 +345,7 @@ fn containers(rt: HostRuntime) -> Result<(), Fail> {
     Ok(())
 }
 
+/// From the file of a selection tool too.
 #[test]
 fn and_gate_from_a_user(rt: HostRuntime) -> Result<(), Fail> {
     let cells = [
@@ -359,15 +360,14 @@ fn and_gate_from_a_user(rt: HostRuntime) -> Result<(), Fail> {
         (2, 1, 1, "redstone_torch[lit=true]"),
         (1, 1, 1, "redstone_wire[east=side,west=side,power=15]"),
     ];
-    let build = box_of(&rt, rt.alloc(), [3, 2, 4], &cells)?;
-    plays(
-        &rt,
-        rt.alloc(),
-        &build,
-        b"use 0 0 0\ntick 4\nuse 2 0 0\ntick 4\nuse 0 0 0\ntick 6",
-        b"outputs 1\n1 0 3 lamp\n0 start 0\n0 use 0\n1 tick 0\n2 tick 0\n3 tick 0\n4 tick 0\n4 use 0\n5 tick 0\n6 tick 1\n7 tick 1\n8 tick 1\n8 use 1\n9 tick 1\n10 tick 1\n11 tick 1\n12 tick 0\n13 tick 0\n14 tick 0\n",
-        b"nodes 6 links 5 events 9\n",
-    )
+    let alloc = rt.alloc();
+    let build = box_of(&rt, alloc, [3, 2, 4], &cells)?;
+    let script = b"use 0 0 0\ntick 4\nuse 2 0 0\ntick 4\nuse 0 0 0\ntick 6";
+    let views =
+        b"outputs 1\n1 0 3 lamp\n0 start 0\n0 use 0\n1 tick 0\n2 tick 0\n3 tick 0\n4 tick 0\n4 use 0\n5 tick 0\n6 tick 1\n7 tick 1\n8 tick 1\n8 use 1\n9 tick 1\n10 tick 1\n11 tick 1\n12 tick 0\n13 tick 0\n14 tick 0\n";
+    let counts = b"nodes 6 links 5 events 9\n";
+    shows(&rt, alloc, &gate_file(alloc)?, script, views, counts)?;
+    plays(&rt, alloc, &build, script, views, counts)
 }
 
 #[test]

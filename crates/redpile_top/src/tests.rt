@@ -88,6 +88,54 @@ fn row_of(alloc: Global, texts: &[&str]) -> Result<Vec<u8>, Fail> {
     ended(row_fields(alloc, texts)?)
 }
 
+/// The file of an AND gate as a selection tool writes it: all properties are spelled out, and
+/// there are fields that are passed over.
+pub(crate) fn gate_file(alloc: Global) -> Result<Vec<u8>, Fail> {
+    let palette = [
+        ("minecraft:air", 0),
+        ("minecraft:lever[face=wall,facing=north,powered=false]", 1),
+        ("minecraft:white_concrete", 2),
+        ("minecraft:redstone_wall_torch[facing=south,lit=false]", 3),
+        ("minecraft:redstone_lamp[lit=false]", 4),
+        ("minecraft:redstone_torch[lit=true]", 5),
+        (
+            "minecraft:redstone_wire[east=side,north=none,power=15,south=none,west=side]",
+            6,
+        ),
+    ];
+    let cells =
+        b"\x01\x00\x01\x02\x02\x02\x00\x03\x00\x00\x04\x00\x00\x00\x00\x05\x06\x05\x00\x00\x00\x00\x00\x00";
+    let mut file = fields_of(alloc, [3, 2, 4], &palette, cells)?;
+    file.extend_from_slice(b"\x03\x00\x0bDataVersion\x00\x00\x0d\x01\x0a\x00\x08Metadata")?;
+    for name in ["WEOffsetX", "WEOffsetY", "WEOffsetZ"] {
+        file.extend_from_slice(b"\x03\x00\x09")?;
+        file.extend_from_slice(name.as_bytes())?;
+        file.extend_from_slice(b"\xff\xff\xff\xfe")?;
+    }
+    file.extend_from_slice(
+        b"\x00\x0b\x00\x06Offset\x00\x00\x00\x03\x00\x00\x00\x01\x00\x00\x00\x02\x00\x00\x00\x03",
+    )?;
+    file.extend_from_slice(
+        b"\x03\x00\x0aPaletteMax\x00\x00\x00\x07\x09\x00\x0dBlockEntities\x0a\x00\x00\x00\x00",
+    )?;
+    ended(file)
+}
+
+/// The file of a barrel with so many stacks of so many stones, a comparator and a wire.
+fn barrel_file(alloc: Global, stacks: u8, count: u8) -> Result<Vec<u8>, Fail> {
+    let row = ["barrel", "comparator[facing=west]", "redstone_wire"];
+    let mut file = row_fields(alloc, &row)?;
+    file.extend_from_slice(
+        b"\x09\x00\x0dBlockEntities\x0a\x00\x00\x00\x01\x0b\x00\x03Pos\x00\x00\x00\x03\x00\x00\x00\x00\x00\x00\x00\x00\x00\x00\x00\x00\x09\x00\x05Items\x0a\x00\x00\x00",
+    )?;
+    file.push(stacks)?;
+    for _ in 0..stacks {
+        file.extend_from_slice(b"\x08\x00\x02id\x00\x0fminecraft:stone\x01\x00\x05Count")?;
+        file.extend_from_slice(&[count, 0])?;
+    }
+    ended(ended(file)?)
+}
+
 fn lever_and_lamp_file(alloc: Global) -> Result<Vec<u8>, Fail> {
     row_of(alloc, &[LEVER, STONE, LAMP])
 }
@@ -673,6 +721,26 @@ fn schematic_beside_version(rt: HostRuntime) -> Result<(), Fail> {
     beside.extend_from_slice(tag)?;
     beside.extend_from_slice(&EMPTY_BOX[12..])?;
     shows(&rt, alloc, &beside, b"tick 1", EMPTY_VIEWS, EMPTY_COUNTS)
+}
+
+/// The strengths of one stone, of 27 full stacks and of nothing.
+#[test]
+fn containers_by_their_items(rt: HostRuntime) -> Result<(), Fail> {
+    let alloc = rt.alloc();
+    let rows: [(u8, u8, &[u8], &[u8]); 3] = [
+        (1, 1, b"1\n", b"nodes 2 links 1 events 1\n"),
+        (27, 64, b"15\n", b"nodes 2 links 1 events 1\n"),
+        (0, 0, b"0\n", b"nodes 1 links 0 events 0\n"),
+    ];
+    for (stacks, count, power, counts) in rows {
+        let build = barrel_file(alloc, stacks, count)?;
+        let views = joined(
+            alloc,
+            &[b"outputs 1\n2 0 0 wire\n0 start 0\n1 tick ", power],
+        )?;
+        shows(&rt, alloc, &build, b"mark 2 0 0\ntick 1", &views, counts)?;
+    }
+    Ok(())
 }
 
 #[test]
