@@ -1,5 +1,5 @@
 -- What a compiled graph keeps of its build.
-use Rattle.std.proofs.Common.{◌≡◌, ℕ, true, false, List, [], ◌∷◌, refl, sym, ap, ◌∙◌, Option, Some, None, Err}
+use Rattle.std.proofs.Common.{◌≡◌, subst, ℕ, true, false, List, [], ◌∷◌, refl, sym, ap, ◌∙◌, Option, Some, None, Err}
 use Rattle.circuit.specs.declared.Act.{Act}
 use Rattle.circuit.specs.declared.Act.TheVariants.{Click as ClickAct, Ticks as TicksAct}
 use Rattle.circuit.specs.declared.Click.{Click}

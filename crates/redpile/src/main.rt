@@ -4,18 +4,22 @@
 
 use redpile_top::{Status, redpile};
 use rp_io::{FileInputs, StdSink, put_all};
-use std::alloc::AllocError;
+use rp_text::NoMemory;
 use std::env;
+use std::io::ErrorKind;
 use std::process::ExitCode;
 
-/// The words behind the program's own name.
-fn words(rt: &HostRuntime) -> Result<Vec<String>, AllocError> {
+/// The words behind the program's own name. Words that aren't text count as none.
+fn words(rt: &HostRuntime) -> Result<Vec<String>, NoMemory> {
     let mut words = Vec::new(rt.alloc());
-    if let Ok(mut arguments) = env::args(rt) {
-        let _name = arguments.next();
-        for word in arguments {
-            words.push(word)?;
+    match env::args(rt) {
+        Ok(arguments) => {
+            for word in arguments.skip(1) {
+                words.push(word)?;
+            }
         }
+        Err(error) if error.kind() == ErrorKind::OutOfMemory => return Err(NoMemory),
+        Err(_) => {}
     }
     Ok(words)
 }
