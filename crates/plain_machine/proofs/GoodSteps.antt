@@ -1,19 +1,21 @@
 -- A graph of good nodes is sound.
 use Rattle.std.proofs.Common.{◌≡◌, ◌≢◌, ◌⊎◌, ℕ, zero, suc, ◌+◌, ◌<◌, ◌≤◌, Bool, true, false, List, [], ◌∷◌, ◌++◌, length, Option, Some, None, refl, sym, ap, ◌∙◌, subst, arith, inl, inr, pos}
-use Rattle.std.specs.Prelude.{◌==◌, ◌&&◌, ◌||◌, nat_le, is_some, slice_get, IfSome, if◌then◌else◌}
+use Rattle.std.specs.Prelude.{◌==◌, ◌&&◌, ◌||◌, nat_le, nat_lt, is_some, slice_get, IfSome, if◌then◌else◌}
 use Rattle.std.specs.List.{list_all}
 use Rattle.std.specs.Ordering.{int_eq}
-use Rattle.std.proofs.lemmas.Bool.{cases_lt, and_parts, eqb-true, leb-true}
+use Rattle.std.proofs.lemmas.Bool.{and_parts, eqb-true, leb-true}
 use Rattle.std.proofs.lemmas.Bool.Decides.{Decides-int_eq}
 use Rattle.circuit.specs.declared.Pos.{Pos}
-use Rattle.circuit.specs.Circuit.{Each, EachBefore}
+use Rattle.circuit.specs.Circuit.{Each, EachBefore, Among}
 use Rattle.graph.specs.declared.Kind.{Kind}
 use Rattle.graph.specs.declared.Kind.TheVariants.{Button, Repeater, Comparator}
 use Rattle.graph.specs.declared.Link.{Link}
 use Rattle.graph.specs.Graph.{Node, Nodes, node_at}
 use Rattle.graph.specs.GraphCircuit.{role_of}
 use Rattle.graph.specs.Sound.{can_wait, top_of, IsKindInRange, IsSoundNode, places_of, IsSound}
-use Rattle.plain_machine.specs.Good.{is_small, is_kind_good, is_tick_good, is_link_good, is_alone, is_node_good, is_entry_good}
+use Rattle.graph.proofs.ListedSteps.{among_keys}
+use Rattle.node_arena.specs.Items.{keys_of}
+use Rattle.plain_machine.specs.Good.{is_small, is_kind_good, is_tick_good, is_link_good, is_alone, is_node_good, is_entry_good, is_key_good, is_good}
 
 either_true : (a b : Bool) → a || b ≡ true → (a ≡ true) ⊎ (b ≡ true)
 either_true true b h = inl refl
@@ -111,14 +113,18 @@ places_apart whole from (Some node ∷ g) all =
     let rest = next_good whole from (Some node) g all in
     subst (λ (l : List Pos). EachBefore (λ a b. a ≢ b) ((node.pos ∷ l) ++ places_of g)) (sym none) (places_beyond whole node.pos (from + 0) (suc from) g here.x (omega arith) rest, places_apart whole (suc from) g rest)
 
-pub sound_where_good : (g : Nodes) (count : ℕ) → ((key : ℕ) → count ≤ key → node_at g key ≡ None) → ((key : ℕ) → key < count → is_entry_good g key (node_at g key) ≡ true) → IsSound g
-sound_where_good g count past good = record {
+each_among : (test : ℕ → Bool) (keys : List ℕ) (key : ℕ) → list_all test keys ≡ true → Among keys key → test key ≡ true
+each_among test [] key h among = absurd among
+each_among test (k ∷ keys) key h among = let parts = and_parts (test k) (list_all test keys) h in elim among [ inl e ↦ ap test e ∙ parts.0 | inr more ↦ each_among test keys key parts.1 more ]
+
+pub sound_where_good : (g : Nodes) → is_good g ≡ true → IsSound g
+sound_where_good g good = record {
   each = λ key node e. (all key node e).sound;
   apart = places_apart g 0 g (λ key node e. subst (λ k. Good g k node) (omega arith) (all key node e));
 }
   where
     all : (key : ℕ) (node : Node) → node_at g key ≡ Some node → Good g key node
-    all key node e = elim (cases_lt key count) [
-      | inl below ↦ good_node g key node (ap (is_entry_good g key) (sym e) ∙ good key below)
-      | inr above ↦ (let clash : None ≡ Some node = sym (past key above) ∙ e in absurd (cc))
-    ]
+    all key node e =
+        let among : Among (keys_of g) key = subst (Among (keys_of g)) (omega arith) (among_keys 0 key g node e) in
+        let parts = and_parts (nat_lt key 100) (is_entry_good g key (node_at g key)) (each_among (is_key_good g) (keys_of g) key good among) in
+        good_node g key node (ap (is_entry_good g key) (sym e) ∙ parts.1)

@@ -1,7 +1,8 @@
 -- The graphs that the tests make: sound, and each node stands at the place of its key.
-use Rattle.std.specs.Prelude.{ℕ, Bool, true, length, Option, Some, None, ◌&&◌, ◌||◌, ◌==◌, nat_le, is_some, pos, if◌then◌else◌}
+use Rattle.std.specs.Prelude.{ℕ, Bool, true, length, Option, Some, None, ◌&&◌, ◌||◌, ◌==◌, nat_le, nat_lt, is_some, pos, if◌then◌else◌}
 use Rattle.std.specs.List.{list_all}
 use Rattle.std.specs.Ordering.{int_eq}
+use Rattle.node_arena.specs.Items.{keys_of}
 use Rattle.graph.specs.declared.Kind.{Kind}
 use Rattle.graph.specs.declared.Kind.TheVariants.{Button, Repeater, Comparator}
 use Rattle.graph.specs.declared.Link.{Link}
@@ -36,3 +37,10 @@ is_node_good g key node =
 abbrev pub is_entry_good : Nodes → ℕ → Option Node → Bool
 is_entry_good g key None = true
 is_entry_good g key (Some node) = is_node_good g key node
+
+abbrev pub is_key_good : Nodes → ℕ → Bool
+is_key_good g key = nat_lt key 100 && is_entry_good g key (node_at g key)
+
+-- all nodes are good, under keys below 100
+abbrev pub is_good : Nodes → Bool
+is_good g = list_all (is_key_good g) (keys_of g)

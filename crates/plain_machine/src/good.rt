@@ -1,12 +1,12 @@
 //! Whether a small graph is sound, by looking at each of its nodes.
 
-ghost use Rattle.std.specs.Prelude.{◌≡◌, ◌<◌, ◌≤◌, ◌^◌, ℕ, max, All, None, IsTrue, IfOk};
+ghost use Rattle.std.specs.Prelude.{◌≡◌, ◌<◌, ◌^◌, IsTrue, IfOk};
 ghost use Rattle.std.specs.List.{list_all};
 ghost use Rattle.graph.specs.Graph.{node_at};
 ghost use Rattle.graph.specs.GraphCircuit.{role_of};
 ghost use Rattle.graph.specs.Sound.{IsSound, can_wait, top_of};
 ghost use Rattle.graph.specs.Stored.{plain};
-ghost use Rattle.plain_machine.specs.Good.{is_small, is_kind_good, is_tick_good, is_link_good, is_alone, is_node_good, is_entry_good};
+ghost use Rattle.plain_machine.specs.Good.{is_small, is_kind_good, is_tick_good, is_link_good, is_alone, is_node_good, is_entry_good, is_key_good, is_good};
 
 use graph::{Graph, Kind, Link, Node, NodeKey};
 use rp_text::NoMemory;
@@ -105,46 +105,24 @@ fn is_entry_good(graph: &Graph, key: u32) -> bool
     }
 }
 
-fn larger(one: usize, other: usize) -> usize
-    ensures { result ≡ max one other }
+fn is_key_good(graph: &Graph, key: NodeKey) -> bool
+    ensures { result ≡ is_key_good graph.now.nodes key }
 {
-    if one < other { other } else { one }
+    key.number() < 100 && is_entry_good(graph, key.number())
 }
 
-/// One more than the last key, or 0 where there is none.
-fn count_of(keys: &[NodeKey]) -> usize
-    ensures above { All (λ key. key < result) keys.now }
-    ensures few { result ≤ 2 ^ 32 }
+fn are_keys_good(graph: &Graph, keys: &[NodeKey]) -> bool
+    ensures { result ≡ list_all (is_key_good graph.now.nodes) keys.now }
 {
-    let mut count = 0;
-    for key in keys {
-        count = larger(count, key.number() as usize + 1);
-    }
-    count
+    keys.iter().all(|key| is_key_good(graph, *key))
 }
 
-/// So many keys are enough for the nodes of the graph.
-fn count_keys(graph: &Graph) -> Result<usize, NoMemory>
-    ensures past { IfOk result (λ count. (key : ℕ) → count ≤ key → node_at graph.now.nodes key ≡ None) }
-    ensures few { IfOk result (λ count. count ≤ 2 ^ 32) }
+/// Whether each node of a graph is sound and stands alone at the x of its key, which is below 100.
+/// Such a graph is sound.
+pub fn is_good(graph: &Graph) -> Result<bool, NoMemory>
+    ensures exact { IfOk result (λ good. good ≡ is_good graph.now.nodes) }
+    ensures sound { IfOk result (λ good. IsTrue good → IsSound graph.now.nodes) }
 {
     let keys = graph.keys()?;
-    Ok(count_of(&keys))
-}
-
-/// Whether a graph of fewer than a hundred keys is found to be sound, where each node stands at the
-/// place of its key.
-pub fn is_good(graph: &Graph) -> Result<bool, NoMemory>
-    ensures { IfOk result (λ good. IsTrue good → IsSound graph.now.nodes) }
-{
-    let count = count_keys(graph)?;
-    if count > 100 {
-        return Ok(false);
-    }
-    for key in 0..count {
-        if !is_entry_good(graph, key as u32) {
-            return Ok(false);
-        }
-    }
-    Ok(true)
+    Ok(are_keys_good(graph, &keys))
 }
