@@ -1,6 +1,5 @@
 -- How the writing of a run goes on, for any circuit, its outputs and acts, and a trailer that may tell the number of events.
-use Rattle.std.proofs.Common.{◌≡◌, ℕ, zero, suc, ◌+◌, ◌≤◌, List, [], ◌∷◌, ◌++◌, length, refl, sym, ap, subst, ◌∙◌, arith, Option, Result, Ok, Err, OnOk, OnErr, IfOk, append_assoc}
-use Rattle.std.specs.Prelude.{sum_by}
+use Rattle.std.proofs.Common.{◌≡◌, ℕ, zero, suc, ◌+◌, ◌≤◌, List, [], ◌∷◌, ◌++◌, refl, sym, ap, subst, ◌∙◌, arith, Option, Result, Ok, Err, OnOk, OnErr, IfOk, append_assoc}
 use Rattle.std.proofs.lemmas.List.{append-nil}
 use Rattle.circuit.specs.declared.Act.{Act}
 use Rattle.circuit.specs.declared.Act.TheVariants.{Click as ClickAct, Ticks as TicksAct}
@@ -18,20 +17,12 @@ use Rattle.report.specs.ViewLine.{view_line}
 use Rattle.player.specs.Cost.{cost_of_run}
 use Rattle.player.specs.Moments.{Moment, moments, moment_after, view_lines, run_text, all_moments, tick_count, click_count}
 use Rattle.player.specs.Played.{StepTo, TakenStep, last_view}
+pub use Rattle.player.specs.AnyRun.{events_of, cost_of}
 
 abbrev pub moment_line : Moment → List ℕ → List ℕ
 moment_line moment view = view_line moment.time moment.cause view
 
 -- ---- one step in front of a run
-
--- how many events a step is, and what they cost
-abbrev pub events_of : {K : Type 0} (C : Circuit K) (step : Step) (s next : State K) → StepTo C step s next → ℕ
-events_of C (ClickAt pos click) s next to = 1
-events_of C OneTick s next to = length to.0
-
-abbrev pub cost_of : {K : Type 0} (C : Circuit K) (cost : K → ℕ) (step : Step) (s next : State K) → StepTo C step s next → ℕ
-cost_of C cost (ClickAt pos click) s next to = cost to.key
-cost_of C cost OneTick s next to = sum_by cost to.0
 
 -- a step and then the run
 record StepThen {K : Type 0} (C : Circuit K) (cost : K → ℕ) (step : Step) (s next last : State K) (steps : List Step) (order : List (List K)) (views : List (List ℕ)) (to : StepTo C step s next) (rest : Run C next steps order views last) : Type 0 where

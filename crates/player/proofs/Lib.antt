@@ -3,3 +3,4 @@ pub mod Scripts
 mod TextRows
 pub mod WorldRuns
 pub mod GraphRuns
+pub mod AnyRuns

@@ -1,7 +1,7 @@
 //! Plays a graph.
 
-ghost use Rattle.std.specs.Prelude.{◌≡◌, ◌≤◌, ◌<◌, ◌+◌, ◌*◌, ◌^◌, [], length, IfOk, OnOk, OnErr, IsErrOf};
-ghost use Rattle.rp_io.specs.Causes.{Rose, HasCause, Wrote, WrotePrefix};
+ghost use Rattle.std.specs.Prelude.{◌≡◌, ◌≤◌, [], IfOk, OnErr, IsErrOf};
+ghost use Rattle.rp_io.specs.Causes.{Rose, HasCause};
 ghost use Rattle.circuit.specs.Circuit.{view, start};
 ghost use Rattle.circuit.specs.Taken.{EachActTaken};
 ghost use Rattle.graph.specs.Graph.{node_count, link_count};
@@ -9,21 +9,21 @@ ghost use Rattle.graph.specs.GraphCircuit.{graph_circuit};
 ghost use Rattle.graph.specs.Sound.{IsSound};
 ghost use Rattle.graph_machine.specs.Playing.{state_in};
 ghost use Rattle.report.specs.Header.{header};
-ghost use Rattle.report.specs.ViewLine.{view_line};
-ghost use Rattle.player.specs.Moments.{moment_after};
-ghost use Rattle.player.specs.Played.{TakesStep, TakenStep, with_events, EndedWith, WroteGraphRun, WroteGraphRunPrefix};
+ghost use Rattle.player.specs.Played.{EndedWith, WroteGraphRun, WroteGraphRunPrefix};
 
 use crate::PlayRefusal;
-use crate::lines::{line_for, put_trailer, zeros};
+use crate::graph_play::GraphPlay;
+use crate::lines::{trailer_line, zeros};
+use crate::plays::put_run;
 use build::OutPlace;
-use circuit::Step;
 use graph::Graph;
 use graph_machine::{Machine, Steps};
-use report::{Cause, Counts, LineBuf, push_header, push_view};
+use report::{Counts, LineBuf, push_header};
 use rp_io::{Sink, WriteFault, put_all};
 use script::Script;
 use std::alloc::Global;
 use std::sync::ledger::Ledger;
+use view_text::LastView;
 
 /// What a run of a graph came to: its counts, and what its last view shows, 0 or 1, and of a wire
 /// its power.
@@ -33,116 +33,36 @@ pub struct GraphRun {
     pub values: Vec<u8>,
 }
 
-/// Writes the line of a view.
-fn put_view<O: Sink>(
-    out: &mut O,
-    machine: &Machine,
-    cause: Cause,
-    values: &mut [u8],
-    line: &mut LineBuf,
-) -> Result<(), WriteFault>
-    requires values { length values.old ≡ length (graph_circuit machine.now.nodes).shown }
-    requires room { 96 + 3 * length values.old ≤ line.old.room }
-    ensures room { line.new.room ≡ line.old.room }
-    ensures values { values.new ≡ view (graph_circuit machine.now.nodes) (state_in machine.now) }
-    ensures all { OnOk result (Wrote (O.written out.old) (O.written out.new) (view_line machine.now.time cause (view (graph_circuit machine.now.nodes) (state_in machine.now)))) }
-    ensures front { OnErr result (WrotePrefix (O.written out.old) (O.written out.new) (view_line machine.now.time cause (view (graph_circuit machine.now.nodes) (state_in machine.now)))) }
-    ensures cause { HasCause (O.faults out.old) (O.faults out.new) result }
-{
-    line.clear();
-    machine.view(values);
-    push_view(line, machine.time(), cause, values);
-    put_all(out, line.bytes())
-}
-
-/// Takes a step, and gives the cause of the view after it.
-fn take_step<L: Ledger>(machine: &mut Machine, step: Step, steps: &mut Steps<L>) -> Cause
-    requires early { machine.old.time < 2 ^ 62 }
-    requires few { machine.old.events < 2 ^ 62 }
-    requires taken { TakenStep (graph_circuit machine.old.nodes) step }
-    ensures nodes { machine.new.nodes ≡ machine.old.nodes }
-    ensures few { machine.new.events ≤ machine.old.events + 2 ^ 32 }
-    ensures moment { moment_after machine.old.time step ≡ record { time = machine.new.time; cause = result } }
-    ensures step { TakesStep machine.old.nodes step (state_in machine.old) (state_in machine.new) machine.old.events machine.new.events steps.old steps.new }
-{
-    match step {
-        Step::Click { pos, click } => {
-            match machine.click(pos, click, steps) {
-                Ok(()) => Cause::of_click(click),
-                Err(_) => unreachable!(),
-            }
-        }
-        Step::Tick => {
-            machine.tick(steps);
-            Cause::Tick
-        }
-    }
-}
-
-/// Writes the run of a machine that has just started, of a graph of so many nodes and links: the
-/// header, a line for each view, and the trailer.
-fn put_run<O: Sink, L: Ledger>(
-    header: &[u8],
-    counts: Counts,
-    script: &Script,
-    machine: &mut Machine,
-    values: &mut [u8],
-    line: &mut LineBuf,
-    out: &mut O,
-    steps: &mut Steps<L>,
-) -> Result<Counts, WriteFault>
-    requires nodes { counts.nodes ≡ node_count machine.old.nodes }
-    requires links { counts.links ≡ link_count machine.old.nodes }
-    requires taken { EachActTaken (graph_circuit machine.old.nodes) script.now.acts }
-    requires time { machine.old.time ≡ 0 }
-    requires events { machine.old.events ≡ 0 }
-    requires start { state_in machine.old ≡ start (graph_circuit machine.old.nodes) }
-    requires values { length values.old ≡ length (graph_circuit machine.old.nodes).shown }
-    requires room { 96 + 3 * length values.old ≤ line.old.room }
-    ensures done { IfOk result (λ counts. EndedWith machine.old.nodes [] header.now script.now.acts counts values.new (O.written out.old) (O.written out.new) steps.old steps.new) }
-    ensures front { OnErr result (WroteGraphRunPrefix machine.old.nodes [] header.now script.now.acts (O.written out.old) (O.written out.new)) }
-    ensures cause { HasCause (O.faults out.old) (O.faults out.new) result }
-{
-    put_all(out, header)?;
-    put_view(out, machine, Cause::Start, values, line)?;
-    for step in script.steps() {
-        let cause = take_step(machine, step, steps);
-        put_view(out, machine, cause, values, line)?;
-    }
-    let counts = Counts {
-        events: machine.events(),
-        ..counts
-    };
-    put_trailer(out, line, Some(counts))?;
-    Ok(counts)
-}
-
-/// The same behind some bytes.
+/// Writes some bytes, and then the run of what has just started.
 fn put_behind<O: Sink, L: Ledger>(
     front: &[u8],
     header: &[u8],
-    counts: Counts,
     script: &Script,
-    machine: &mut Machine,
-    values: &mut [u8],
+    play: &mut GraphPlay,
+    shown: &mut LastView,
     line: &mut LineBuf,
     out: &mut O,
     steps: &mut Steps<L>,
 ) -> Result<Counts, WriteFault>
-    requires nodes { counts.nodes ≡ node_count machine.old.nodes }
-    requires links { counts.links ≡ link_count machine.old.nodes }
-    requires taken { EachActTaken (graph_circuit machine.old.nodes) script.now.acts }
-    requires time { machine.old.time ≡ 0 }
-    requires events { machine.old.events ≡ 0 }
-    requires start { state_in machine.old ≡ start (graph_circuit machine.old.nodes) }
-    requires values { length values.old ≡ length (graph_circuit machine.old.nodes).shown }
-    requires room { 96 + 3 * length values.old ≤ line.old.room }
-    ensures done { IfOk result (λ counts. EndedWith machine.old.nodes front.now header.now script.now.acts counts values.new (O.written out.old) (O.written out.new) steps.old steps.new) }
-    ensures front { OnErr result (WroteGraphRunPrefix machine.old.nodes front.now header.now script.now.acts (O.written out.old) (O.written out.new)) }
+    requires nodes { play.old.counts.nodes ≡ node_count play.old.machine.nodes }
+    requires links { play.old.counts.links ≡ link_count play.old.machine.nodes }
+    requires taken { EachActTaken (graph_circuit play.old.machine.nodes) script.now.acts }
+    requires time { play.old.machine.time ≡ 0 }
+    requires events { play.old.machine.events ≡ 0 }
+    requires start { state_in play.old.machine ≡ start (graph_circuit play.old.machine.nodes) }
+    requires shown { shown.old ≡ view (graph_circuit play.old.machine.nodes) (state_in play.old.machine) }
+    requires room { 96 ≤ line.old.room }
+    ensures done { IfOk result (λ counts. EndedWith play.old.machine.nodes front.now header.now script.now.acts counts shown.new (O.written out.old) (O.written out.new) steps.old steps.new) }
+    ensures front { OnErr result (WroteGraphRunPrefix play.old.machine.nodes front.now header.now script.now.acts (O.written out.old) (O.written out.new)) }
     ensures cause { HasCause (O.faults out.old) (O.faults out.new) result }
 {
+    let counts = play.counts;
     put_all(out, front)?;
-    put_run(header, counts, script, machine, values, line, out, steps)
+    put_run(header, script, play, shown, line, out, steps)?;
+    Ok(Counts {
+        events: play.machine.events(),
+        ..counts
+    })
 }
 
 /// Plays a script on a graph, behind some bytes that are written first: the header of these
@@ -172,21 +92,24 @@ pub fn play_behind<O: Sink, L: Ledger>(
         links: graph.link_count(),
         events: 0,
     };
-    let mut machine = Machine::start(alloc, graph)?;
+    let machine = Machine::start(alloc, graph)?;
     let mut values = zeros(alloc, machine.output_count())?;
-    let mut line = line_for(alloc, values.len())?;
-    match put_behind(
-        front,
-        &header,
+    let seen = values.as_mut_slice();
+    machine.view(seen);
+    let mut shown = LastView::new(alloc, seen)?;
+    let mut line = trailer_line(alloc)?;
+    let mut play = GraphPlay {
+        machine,
         counts,
-        script,
-        &mut machine,
-        values.as_mut_slice(),
-        &mut line,
-        out,
-        steps,
+        values,
+    };
+    match put_behind(
+        front, &header, script, &mut play, &mut shown, &mut line, out, steps,
     ) {
-        Ok(counts) => Ok(GraphRun { counts, values }),
+        Ok(counts) => Ok(GraphRun {
+            counts,
+            values: shown.into_values(),
+        }),
         Err(WriteFault) => Err(PlayRefusal::WriteFault),
     }
 }

@@ -6,12 +6,16 @@ ghost use Rattle.player.specs.declared.PlayRefusal.TheVariants.{NoMemory as NoMe
 
 use rp_text::NoMemory;
 
+mod graph_play;
 mod graph_run;
 mod lines;
+mod plays;
+mod world_play;
 mod world_run;
 
 pub use graph_machine::Steps;
 pub use graph_run::{GraphRun, play, play_behind};
+pub use plays::{Plays, put_run};
 pub use world_run::play_world;
 
 /// Why a run wasn't written whole.

@@ -1,6 +1,6 @@
-//! Room for the lines of a run, and the trailer.
+//! Room for what a view shows, and the trailer.
 
-ghost use Rattle.std.specs.Prelude.{◌≡◌, ◌≤◌, ◌+◌, ◌*◌, length, IfOk, OnOk, OnErr, IfSome};
+ghost use Rattle.std.specs.Prelude.{◌≡◌, ◌≤◌, length, IfOk, OnOk, OnErr};
 ghost use Rattle.rp_io.specs.Causes.{HasCause, Wrote, WrotePrefix};
 ghost use Rattle.report.specs.Trailers.{trailer};
 
@@ -9,8 +9,8 @@ use rp_io::{Sink, WriteFault, put_all};
 use rp_text::NoMemory;
 use std::alloc::Global;
 
-/// Room for the trailer, or for a view's line but for its values.
-const LINE_ROOM: usize = 96;
+/// Room for the trailer.
+const TRAILER_ROOM: usize = 96;
 
 /// A byte for each value of a view.
 pub fn zeros(alloc: Global, count: usize) -> Result<Vec<u8>, NoMemory>
@@ -19,20 +19,11 @@ pub fn zeros(alloc: Global, count: usize) -> Result<Vec<u8>, NoMemory>
     Ok(vec![in alloc; 0u8; count]?)
 }
 
-/// A line with room for a view of so many values, and for the trailer.
-pub fn line_for(alloc: Global, values: usize) -> Result<LineBuf, NoMemory>
-    ensures { IfOk result (λ line. 96 + 3 * values ≤ line.room) }
+/// A line with room for the trailer.
+pub fn trailer_line(alloc: Global) -> Result<LineBuf, NoMemory>
+    ensures { IfOk result (λ line. 96 ≤ line.room) }
 {
-    match room_for(values) {
-        Some(room) => LineBuf::new(alloc, room),
-        None => Err(NoMemory),
-    }
-}
-
-fn room_for(values: usize) -> Option<usize>
-    ensures { IfSome result (λ room. room ≡ 96 + 3 * values) }
-{
-    values.checked_mul(3)?.checked_add(LINE_ROOM)
+    LineBuf::new(alloc, TRAILER_ROOM)
 }
 
 /// Writes the trailer.

@@ -9,8 +9,8 @@ use Rattle.circuit.specs.Component.{attended}
 use Rattle.circuit.specs.Circuit.{attended_at}
 use Rattle.build.specs.Roles.{role_at, first_at}
 use Rattle.cell_queue.specs.Held.{Holding, CanFollow, cell_of}
-use Rattle.world_engine.specs.Things.{Numbered, IsNumbered, number_at, held, nothing}
-use Rattle.world_engine.specs.Numbers.{held-there}
+use Rattle.wiring.specs.Things.{Numbered, IsNumbered, number_at, held, nothing}
+use Rattle.wiring.specs.Numbers.{held-there}
 use Rattle.world_engine.specs.Running.{Attends, IsHolding, after_attending, reads_of}
 use Rattle.world_engine.proofs.Attending.{within-attends}
 use Rattle.world_engine.proofs.Follow.{delays_small, attended_follows}

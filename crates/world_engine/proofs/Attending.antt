@@ -14,7 +14,7 @@ use Rattle.circuit.proofs.Bounded.{cond_le}
 use Rattle.build.specs.Roles.{role_at, first_at, base_at}
 use Rattle.power_rules.specs.Readings.{readings_at}
 use Rattle.power_rules.specs.RightWires.{level_with, levels, wire_powers}
-use Rattle.world_engine.specs.Things.{Numbered, IsNumbered, held, nothing, state_by}
+use Rattle.wiring.specs.Things.{Numbered, IsNumbered, held, nothing, state_by}
 use Rattle.world_engine.specs.WireThings.{things_levels}
 use Rattle.world_engine.specs.Given.{given-le}
 use Rattle.world_engine.specs.Running.{circuit_of, given_by, reads_of, ArePowers, AreStill, AreWithin, after_attending, Attends}
@@ -25,13 +25,13 @@ out-attended Trapdoor aim value = refl
 out-attended Note aim value = refl
 out-attended _ aim value = refl
 
-out_at-after : (time : ℕ) (role : Option Component) (first : Bool) (base : ℕ) (reads : Pos → Readings) (p : Pos) (cell : Cell) →
+pub out_at-after : (time : ℕ) (role : Option Component) (first : Bool) (base : ℕ) (reads : Pos → Readings) (p : Pos) (cell : Cell) →
     out_at role base (attended_at time role first reads p cell) ≡ out_at role base cell
 out_at-after time None first base reads p cell = refl
 out_at-after time (Some component) first base reads p cell = out-attended component (goal component (reads p)) cell.value
 
 -- who has attended has no more to do, at whatever time
-attended_at-again : (later time : ℕ) (role : Option Component) (first : Bool) (reads : Pos → Readings) (p : Pos) (cell : Cell) →
+pub attended_at-again : (later time : ℕ) (role : Option Component) (first : Bool) (reads : Pos → Readings) (p : Pos) (cell : Cell) →
     attended_at later role first reads p (attended_at time role first reads p cell) ≡ attended_at time role first reads p cell
 attended_at-again later time None first reads p cell = refl
 attended_at-again later time (Some component) first reads p cell =
@@ -151,7 +151,7 @@ attended_value-le Trapdoor r value q = cond_le _ 1 0 1 (omega arith) (omega arit
 attended_value-le Note r value q = cond_le _ 1 0 1 (omega arith) (omega arith)
 attended_value-le _ r value q = q
 
-after-le : (time : ℕ) (role : Option Component) (first : Bool) (reads : Pos → Readings) (p : Pos) (cell : Cell) →
+pub after-le : (time : ℕ) (role : Option Component) (first : Bool) (reads : Pos → Readings) (p : Pos) (cell : Cell) →
     ((component : Component) → role ≡ Some component → cell.value ≤ top component) → (component : Component) → role ≡ Some component → (attended_at time role first reads p cell).value ≤ top component
 after-le time None first reads p cell h component e = absurd (cc)
 after-le time (Some c) first reads p cell h component e =

@@ -10,7 +10,7 @@ use Rattle.circuit.specs.Taken.{Takes}
 use Rattle.circuit.proofs.Runs.{clicked_where_taken}
 use Rattle.build.specs.Roles.{role_at}
 use Rattle.cell_queue.specs.Held.{Holding}
-use Rattle.world_engine.specs.Things.{Numbered, IsNumbered, number_at, held, nothing}
+use Rattle.wiring.specs.Things.{Numbered, IsNumbered, number_at, held, nothing}
 use Rattle.world_engine.specs.Running.{circuit_of, state_of}
 use Rattle.world_engine.proofs.Held.{number_role}
 

@@ -9,8 +9,8 @@ use Rattle.circuit.proofs.FiringLaw.{fire_makes_none_due, fires_is_firing_list}
 use Rattle.circuit.proofs.Runs.{due_at-true, due_at_from}
 use Rattle.build.specs.Roles.{role_at}
 use Rattle.cell_queue.specs.Held.{Holding, cell_of}
-use Rattle.world_engine.specs.Things.{Numbered, IsNumbered, number_at, held, nothing}
-use Rattle.world_engine.specs.Numbers.{held-there}
+use Rattle.wiring.specs.Things.{Numbered, IsNumbered, number_at, held, nothing}
+use Rattle.wiring.specs.Numbers.{held-there}
 use Rattle.world_engine.specs.Running.{circuit_of, state_of, spot, FiresOne, FiresNone, FiresAll}
 use Rattle.world_engine.proofs.Held.{test_of_places, number_role, held-spot, spot-there, spot_number}
 

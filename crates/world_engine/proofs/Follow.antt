@@ -18,7 +18,7 @@ use Rattle.build.specs.Plan.{block_at}
 use Rattle.build.specs.Marks.{is_marked}
 use Rattle.build.specs.Roles.{role_of, role_at, button_delay, first_wooden_button}
 use Rattle.cell_queue.specs.Held.{IsSoon, CanFollow, IsNow, rested}
-use Rattle.world_engine.specs.Things.{Numbered, IsNumbered}
+use Rattle.wiring.specs.Things.{Numbered, IsNumbered}
 
 button_small : (name : ℕ) → delay_of (ButtonPart (button_delay name)) ≤ 15
 button_small name = elim (nat_lt name first_wooden_button) as (λ b. delay_of (ButtonPart (cond b 10 15)) ≤ 15) [ true ↦ omega arith | false ↦ omega arith ]

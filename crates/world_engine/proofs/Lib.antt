@@ -1,5 +1,4 @@
 pub mod Held
-pub mod Numbering
 pub mod Attending
 pub mod Steps
 pub mod Wiring
@@ -18,3 +17,6 @@ pub mod Playing
 pub mod Settling
 pub mod Starting
 pub mod Storing
+pub mod LevelSteps
+pub mod BaseSteps
+pub mod ToldSteps

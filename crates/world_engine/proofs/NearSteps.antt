@@ -9,7 +9,7 @@ use Rattle.wire_net.specs.Listed.{list_at}
 use Rattle.wire_net.specs.WaveSteps.{Has}
 use Rattle.wire_net.specs.Noted.{Waved, IsNoted}
 use Rattle.world_engine.specs.Near.{IsNearby, nearby, origin}
-use Rattle.world_engine.specs.Things.{Numbered}
+use Rattle.wiring.specs.Things.{Numbered}
 use Rattle.world_engine.specs.Running.{Attends, IsNearOne, spot}
 use Rattle.world_engine.proofs.Attending.{attends-fewer}
 use Rattle.world_engine.proofs.Nearness.{near_listed, length-nearby}

@@ -14,13 +14,12 @@ use Rattle.build.specs.Place.{same_place}
 use Rattle.build.specs.SamePlace.{place_itself, place_one}
 use Rattle.build.specs.Roles.{role_at, first_at, base_at}
 use Rattle.wire_net.specs.Net.{IsRight}
-use Rattle.power_rules.specs.Readings.{readings_at}
-use Rattle.power_rules.specs.RightWires.{level_with}
 use Rattle.cell_queue.specs.Held.{Holding, CanFollow, IsNow, NoneNow, IsFirst, cell_of, rested}
-use Rattle.world_engine.specs.Things.{Numbered, IsNumbered, held, nothing}
-use Rattle.world_engine.specs.Numbers.{held-there}
-use Rattle.world_engine.specs.WireThings.{thing_cells}
-use Rattle.world_engine.specs.Running.{circuit_of, state_of, given_by, reads_of, after_attending, spot, AreIdle, AreStill, OthersStill, IsPlaying, FiresOne}
+use Rattle.wiring.specs.Things.{Numbered, IsNumbered, held, nothing}
+use Rattle.wiring.specs.Numbers.{held-there}
+use Rattle.world_engine.specs.Running.{circuit_of, state_of, given_by, spot, AreIdle, FiresOne}
+use Rattle.world_engine.specs.Levels.{after_reading, AreQuiet, OthersQuiet, IsPlayingBy}
+use Rattle.wiring.specs.Wired.{Wired, bases_of, level_cells}
 use Rattle.world_engine.proofs.Held.{held-set, held-spot, number_role, spot_number}
 use Rattle.world_engine.proofs.Follow.{delays_small, fired_follows, fired_rested, attended_now}
 
@@ -96,7 +95,7 @@ out_by_value : (role : Option Component) (base : ℕ) (one two : Cell) → one.v
 out_by_value None base one two same = refl
 out_by_value (Some c) base one two same = ap (out c) same
 
-module _ (m : Numbered) (w : IsNumbered m) (h : Holding) (powers : List ℕ) (feeders : List (List ℕ)) (n : ℕ) (playing : IsPlaying m h powers feeders) (first : IsFirst h n) where
+module _ (m : Numbered) (w : IsNumbered m) (t : Wired) (h : Holding) (bases xs : List ℕ) (feeders : List (List ℕ)) (n : ℕ) (playing : IsPlayingBy m t h bases xs feeders) (first : IsFirst h n) where
   abbrev C : Circuit Pos
   C = circuit_of m
 
@@ -128,15 +127,16 @@ module _ (m : Numbered) (w : IsNumbered m) (h : Holding) (powers : List ℕ) (fe
   same_given : given_by m resting.cells ≡ given_by m h.cells
   same_given = fun_ext (λ q. out_by_value (role_at m.plan m.marks q) (base_at m.plan q) (held m resting.cells nothing q) (held m h.cells nothing q) (same_value q))
 
-  pub resting_playing : IsPlaying m resting powers feeders
+  pub resting_playing : IsPlayingBy m t resting bases xs feeders
   resting_playing = record {
+    wired = playing.wired;
     holding = record {
       whole = length-set h.cells n (rested (cell_of h.cells n)) ∙ playing.holding.whole;
       within = λ q component there. rw (same_value q) (playing.holding.within q component there);
       early = playing.holding.early;
     };
-    powers_whole = playing.powers_whole;
-    solved = subst (λ (g : Pos → ℕ). IsRight (thing_cells m g) powers) (sym same_given) playing.solved;
+    based = playing.based ∙ ap (bases_of m) (sym same_given);
+    solved = subst (λ (g : Pos → ℕ). IsRight (level_cells m g) xs) (sym same_given) playing.solved;
     made = playing.made;
     idle = λ q none. elim (cases_Bool (same_place q (spot m n))) [
       | inl s ↦ ap (λ (c : Cell). c.due) (here_held q s)
@@ -144,16 +144,13 @@ module _ (m : Numbered) (w : IsNumbered m) (h : Holding) (powers : List ℕ) (fe
     ];
   }
 
-  pub resting_still : AreStill m h.cells powers → OthersStill m resting.cells powers (spot m n)
-  resting_still still = record { each = λ q apart time. here q apart time }
+  pub resting_quiet : AreQuiet m h.cells xs → OthersQuiet m resting.cells xs (spot m n)
+  resting_quiet quiet = record { each = λ q apart time. here q apart time }
     where
-      here : (q : Pos) → q ≢ spot m n → (time : ℕ) → after_attending m time (reads_of m resting.cells powers) q (held m resting.cells nothing q) ≡ held m resting.cells nothing q
+      here : (q : Pos) → q ≢ spot m n → (time : ℕ) → after_reading m time xs q (held m resting.cells nothing q) ≡ held m resting.cells nothing q
       here q apart time =
-          let s : same_place q (spot m n) ≡ false = elim (cases_Bool (same_place q (spot m n))) [ inl t ↦ absurd (apart (place_one q (spot m n) t)) | inr t ↦ t ] in
-          let same : reads_of m resting.cells powers ≡ reads_of m h.cells powers = ap (λ (g : Pos → ℕ). readings_at m.plan (level_with m.plan g (held m powers 0))) same_given in
-          ap (λ (r : Pos → Readings). after_attending m time r q (held m resting.cells nothing q)) same
-          ∙ ap (after_attending m time (reads_of m h.cells powers) q) (other_held q s)
-          ∙ still.each q time ∙ sym (other_held q s)
+          let s : same_place q (spot m n) ≡ false = elim (cases_Bool (same_place q (spot m n))) [ inl u ↦ absurd (apart (place_one q (spot m n) u)) | inr u ↦ u ] in
+          ap (after_reading m time xs q) (other_held q s) ∙ quiet.each q time ∙ sym (other_held q s)
 
   put_resting : (cell : Cell) → put C (state_of m resting) (spot m n) cell ≡ put C (state_of m h) (spot m n) cell
   put_resting cell = λ i. record { time = h.time; cells = λ q. each q i }

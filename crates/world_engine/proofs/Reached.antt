@@ -19,8 +19,8 @@ use Rattle.wire_shape.specs.Shape.{wire_at}
 use Rattle.power_rules.specs.RightWires.{level_with}
 use Rattle.world_engine.specs.Near.{IsNearby, origin}
 use Rattle.world_engine.specs.Near.IsNearby.{Itself}
-use Rattle.world_engine.specs.Things.{Numbered, IsNumbered, number_at, held, nothing}
-use Rattle.world_engine.specs.Numbers.{number_wire, held-there}
+use Rattle.wiring.specs.Things.{Numbered, IsNumbered, number_at, held, nothing}
+use Rattle.wiring.specs.Numbers.{number_wire, held-there}
 use Rattle.world_engine.specs.WireThings.{thing_cell, thing_cells, feeders_in, length-things, things-at}
 use Rattle.world_engine.specs.Given.{given_bounded}
 use Rattle.world_engine.specs.Running.{given_by, reads_of, spot, ArePowers, AreWithin, after_attending, OthersStill, IsReached}
@@ -41,7 +41,7 @@ feeders-things m given =
 base-same : (m : Numbered) (f g : Pos → ℕ) (p : Pos) → SameNear f g p → (thing_cell m f p).base ≡ (thing_cell m g p).base
 base-same m f g p same = elim (cases_Bool (wire_at m.plan p)) [ inl e ↦ rw e (source-same m.plan f g p same) | inr e ↦ rw e refl ]
 
-attended_at-reads : (time : ℕ) (role : Option Component) (first : Bool) (f g : Pos → Readings) (p : Pos) (cell : Cell) → f p ≡ g p → attended_at time role first f p cell ≡ attended_at time role first g p cell
+pub attended_at-reads : (time : ℕ) (role : Option Component) (first : Bool) (f g : Pos → Readings) (p : Pos) (cell : Cell) → f p ≡ g p → attended_at time role first f p cell ≡ attended_at time role first g p cell
 attended_at-reads time role first f g p cell e = by_role role
   where
     by_role : (r : Option Component) → attended_at time r first f p cell ≡ attended_at time r first g p cell

@@ -9,7 +9,7 @@ use Rattle.build.specs.Roles.{role_at}
 use Rattle.wire_net.specs.Noted.{Waved, IsNoted}
 use Rattle.cell_queue.specs.Held.{Holding}
 use Rattle.world_engine.specs.Near.{IsNearby}
-use Rattle.world_engine.specs.Things.{Numbered, IsNumbered, state_by}
+use Rattle.wiring.specs.Things.{Numbered, IsNumbered, state_by}
 use Rattle.world_engine.specs.Running.{circuit_of, state_of, spot, AreIdle, AreStill, OthersStill, ArePowers, Attends, IsHolding, IsPlaying, IsNearOne, IsReached}
 use Rattle.world_engine.proofs.Held.{one-put, spot_number}
 use Rattle.world_engine.proofs.Within.{within_put}

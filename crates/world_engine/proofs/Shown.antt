@@ -6,7 +6,7 @@ use Rattle.circuit.specs.declared.Cell.{Cell}
 use Rattle.circuit.specs.Circuit.{State, seen, view}
 use Rattle.build.specs.declared.OutPlace.{OutPlace}
 use Rattle.build.specs.Outputs.{outputs}
-use Rattle.world_engine.specs.Things.{Numbered, state_by}
+use Rattle.wiring.specs.Things.{Numbered, state_by}
 use Rattle.world_engine.specs.Running.{circuit_of, seen_as, state_in, shown_of}
 use Rattle.world_engine.proofs.Held.{state-seen}
 

@@ -10,8 +10,8 @@ use Rattle.build.specs.Near.{near_inside}
 use Rattle.wire_net.specs.WaveSteps.{AreBelow}
 use Rattle.wire_shape.specs.Shape.{wire_at}
 use Rattle.world_engine.specs.Near.{IsNearby, nearby, origin}
-use Rattle.world_engine.specs.Things.{Numbered, IsNumbered, number_at}
-use Rattle.world_engine.specs.Numbers.{number_inside, number_there, number_wire}
+use Rattle.wiring.specs.Things.{Numbered, IsNumbered, number_at}
+use Rattle.wiring.specs.Numbers.{number_inside, number_there, number_wire}
 use Rattle.world_engine.specs.WireThings.{number_of, NotesWire}
 use Rattle.world_engine.specs.Running.{spot}
 use Rattle.world_engine.proofs.Held.{spot_number}

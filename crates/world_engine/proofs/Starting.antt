@@ -14,7 +14,7 @@ use Rattle.build.specs.Place.{same_place}
 use Rattle.build.specs.Plan.{Plan, may_wait, is_timely, is_ticking, block_at, entry}
 use Rattle.build.specs.Roles.{role_at, first_at, stored, stored_of, stored_value, waiting_at, cell_with}
 use Rattle.cell_queue.specs.Held.{Holding, IsSoon}
-use Rattle.world_engine.specs.Things.{Numbered, IsNumbered, nothing, state_by}
+use Rattle.wiring.specs.Things.{Numbered, IsNumbered, nothing, state_by}
 use Rattle.world_engine.specs.Running.{circuit_of, state_of, spot, AreIdle}
 use Rattle.world_engine.proofs.Follow.{soon_none}
 

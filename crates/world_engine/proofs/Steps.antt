@@ -11,20 +11,20 @@ use Rattle.build.specs.SamePlace.{place_itself, place_one}
 use Rattle.build.specs.Roles.{role_at, first_at, stored_of, stored, stored_value, waiting_at}
 use Rattle.build.specs.Plan.{block_at, entry}
 use Rattle.build.specs.declared.Pending.{Pending}
-use Rattle.world_engine.specs.Things.{Numbered, IsNumbered, number_at, held, nothing, state_by}
-use Rattle.world_engine.specs.Numbers.{number_cases, held-there, held-none}
+use Rattle.wiring.specs.Things.{Numbered, IsNumbered, number_at, held, nothing, state_by}
+use Rattle.wiring.specs.Numbers.{number_cases, held-there, held-none}
 use Rattle.world_engine.specs.WireThings.{thing_cells}
 use Rattle.wire_net.specs.Net.{IsRight}
 use Rattle.world_engine.specs.Running.{circuit_of, reads_of, ArePowers, AreStill, AreWithin, after_attending, Attends, spot}
 use Rattle.world_engine.proofs.Held.{held-set, role_none, spot-there}
 use Rattle.world_engine.proofs.Attending.{attends-then, attends-fewer, all-attended, still-attended, given-attends}
 
-attended_none : (time : ℕ) (role : Option Component) (first : Bool) (reads : Pos → Readings) (p : Pos) (cell : Cell) → role ≡ None → attended_at time role first reads p cell ≡ cell
+pub attended_none : (time : ℕ) (role : Option Component) (first : Bool) (reads : Pos → Readings) (p : Pos) (cell : Cell) → role ≡ None → attended_at time role first reads p cell ≡ cell
 attended_none time None first reads p cell h = refl
 attended_none time (Some component) first reads p cell h = absurd (cc)
 
 -- where nothing stands nothing attends
-still_none : (m : Numbered) → IsNumbered m → (time : ℕ) (reads : Pos → Readings) (p : Pos) (cell : Cell) → number_at m p ≡ None → after_attending m time reads p cell ≡ cell
+pub still_none : (m : Numbered) → IsNumbered m → (time : ℕ) (reads : Pos → Readings) (p : Pos) (cell : Cell) → number_at m p ≡ None → after_attending m time reads p cell ≡ cell
 still_none m w time reads p cell none = attended_none time (role_at m.plan m.marks p) (first_at m.plan p) reads p cell (role_none m w p none)
 
 pub attend-set : (m : Numbered) → IsNumbered m → (time : ℕ) (powers : List ℕ) (cells : List Cell) (p : Pos) (n : ℕ) (cell : Cell) → length cells ≡ length m.spots → number_at m p ≡ Some n →

@@ -10,7 +10,7 @@ use Rattle.build.specs.Place.{same_place}
 use Rattle.build.specs.SamePlace.{place_itself, place_one}
 use Rattle.build.specs.Plan.{block_at, entry}
 use Rattle.build.specs.Roles.{role_at, stored, stored_of, stored_value, waiting_at, cell_with}
-use Rattle.world_engine.specs.Things.{Numbered, IsNumbered, number_at, nothing}
+use Rattle.wiring.specs.Things.{Numbered, IsNumbered, number_at, nothing}
 use Rattle.world_engine.specs.Stores.{AreStored, stored_with}
 use Rattle.world_engine.specs.Running.{spot}
 use Rattle.world_engine.proofs.Held.{spot_number, spot-there}

@@ -9,7 +9,7 @@ use Rattle.wire_net.specs.Net.{Cell, cell_at}
 use Rattle.wire_shape.specs.Shape.{wire_at}
 use Rattle.wire_shape.specs.Feeders.{feeders}
 use Rattle.power_rules.specs.RightWires.{source_power}
-use Rattle.world_engine.specs.Things.{Numbered}
+use Rattle.wiring.specs.Things.{Numbered}
 use Rattle.world_engine.specs.WireThings.{number_of, thing_cell, thing_cells, things-at}
 use Rattle.world_engine.specs.Running.{spot}
 

@@ -19,7 +19,7 @@ use Rattle.build.specs.Place.{same_place}
 use Rattle.build.specs.SamePlace.{place_itself, place_one}
 use Rattle.build.specs.Roles.{role_at, stored}
 use Rattle.power_rules.specs.Bounded.{world_bounded}
-use Rattle.world_engine.specs.Things.{Numbered, IsNumbered, state_by}
+use Rattle.wiring.specs.Things.{Numbered, IsNumbered, state_by}
 use Rattle.world_engine.specs.Running.{circuit_of, AreWithin, shown_of}
 use Rattle.world_engine.proofs.Held.{test_of_places}
 

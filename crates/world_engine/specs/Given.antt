@@ -11,7 +11,7 @@ use Rattle.block_table.specs.declared.Block.TheVariants.{RedstoneBlock}
 use Rattle.build.specs.Plan.{block_at}
 use Rattle.build.specs.Roles.{role_at, base_at, base_of}
 use Rattle.wire_net.specs.Net.{IsBounded}
-use Rattle.world_engine.specs.Things.{Numbered, held, nothing}
+use Rattle.wiring.specs.Things.{Numbered, held, nothing}
 use Rattle.world_engine.specs.WireThings.{thing_cells, things_bounded}
 use Rattle.world_engine.specs.Running.{given_by, AreWithin}
 

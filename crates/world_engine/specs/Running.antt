@@ -1,5 +1,5 @@
 -- What a running world is, and what it is seen as.
-use Rattle.std.specs.Prelude.{◌≡◌, ◌≢◌, ◌≤◌, ◌<◌, ◌^◌, ◌⊎◌, slice_index_or, ℕ, length, map, List, Option, Some, None}
+use Rattle.std.specs.Prelude.{◌≡◌, ◌≢◌, ◌≤◌, ◌<◌, ◌^◌, ◌⊎◌, ℕ, length, map, List, Option, Some, None}
 use Rattle.circuit.specs.declared.Pos.{Pos}
 use Rattle.circuit.specs.declared.Component.{Component}
 use Rattle.circuit.specs.declared.Readings.{Readings}
@@ -16,12 +16,10 @@ use Rattle.wire_net.specs.Noted.{Waved, IsNoted}
 use Rattle.power_rules.specs.Readings.{readings_at}
 use Rattle.power_rules.specs.RightWires.{level_with}
 use Rattle.power_rules.specs.World.{world_circuit}
-use Rattle.world_engine.specs.Things.{Numbered, IsNumbered, held, nothing, state_by}
+pub use Rattle.wiring.specs.Things.{spot}
+use Rattle.wiring.specs.Things.{Numbered, IsNumbered, held, nothing, state_by}
 use Rattle.world_engine.specs.WireThings.{thing_cells, feeders_in}
-use Rattle.world_engine.specs.Near.{IsNearby, origin}
-
-abbrev pub spot : Numbered → ℕ → Pos
-spot m n = slice_index_or m.spots n origin
+use Rattle.world_engine.specs.Near.{IsNearby}
 
 -- the build that runs, its marks, the time, and what each cell of the box holds
 pub record Running : Type 0 where

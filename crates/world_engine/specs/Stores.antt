@@ -5,7 +5,7 @@ use Rattle.circuit.specs.declared.Cell.{Cell}
 use Rattle.build.specs.declared.Pending.{Pending}
 use Rattle.build.specs.Plan.{block_at, entry}
 use Rattle.build.specs.Roles.{role_at, stored_of, stored_value, waiting_at}
-use Rattle.world_engine.specs.Things.{Numbered, nothing}
+use Rattle.wiring.specs.Things.{Numbered, nothing}
 use Rattle.world_engine.specs.Running.{spot}
 
 unfoldable pub stored_with : Numbered → List Pending → Pos → Cell

@@ -18,8 +18,8 @@ use Rattle.power_rules.specs.RightWires.{source_power, AreRight, wire_powers, le
 use Rattle.power_rules.specs.WirePowers.{feeders-same, wires_right, wires_unique}
 use Rattle.power_rules.specs.Bounded.{source_power-le, wire_cells-bounded}
 use Rattle.world_engine.specs.Near.{origin}
-use Rattle.world_engine.specs.Things.{Numbered, IsNumbered, number_at, held}
-use Rattle.world_engine.specs.Numbers.{number_there, number_wire, number_cases, held-there, held-none}
+use Rattle.wiring.specs.Things.{Numbered, IsNumbered, number_at, held}
+use Rattle.wiring.specs.Numbers.{number_there, number_wire, number_cases, held-there, held-none}
 
 -- the number of a thing, 0 where none stands
 abbrev pub number_of : Numbered → Pos → ℕ

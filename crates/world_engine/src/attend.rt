@@ -9,10 +9,10 @@ ghost use Rattle.world_engine.specs.Running.{circuit_of, state_of, spot, AreStil
 
 use crate::near::nearby;
 use crate::sight::attended;
-use crate::things::Things;
 use cell_queue::Cells;
 use circuit::Pos;
 use wire_net::Waves;
+use wiring::Things;
 
 // What stands at a place attends.
 fn attend_at(things: &Things, powers: &[u8], cells: &mut Cells, pos: Pos)

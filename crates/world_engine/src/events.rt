@@ -1,137 +1,131 @@
 //! What happens in one click and in one tick.
 
-ghost use Rattle.std.specs.Prelude.{◌≡◌, ◌<◌, OnOk, OnErr, None, length, map};
+ghost use Rattle.std.specs.Prelude.{◌≡◌, ◌<◌, OnOk, OnErr, length, map};
 ghost use Rattle.circuit.specs.Bounds.{BoundedAt};
-ghost use Rattle.circuit.specs.Circuit.{attend, fired_in, put, seen, start, Clicks};
+ghost use Rattle.circuit.specs.Circuit.{fired_in, seen, start, Clicks};
 ghost use Rattle.circuit.specs.Taken.{Takes};
 ghost use Rattle.build.specs.Roles.{role_at, stored};
-ghost use Rattle.cell_queue.specs.Held.{CanFollow, NoneNow, cell_of};
-ghost use Rattle.world_engine.specs.Things.{state_by};
-ghost use Rattle.world_engine.specs.Running.{circuit_of, state_of, spot, AreIdle, AreStill, OthersStill, ArePowers, IsHolding, IsPlaying, FiresAll, MayFire, shown_of};
+ghost use Rattle.cell_queue.specs.Held.{NoneNow};
+ghost use Rattle.wiring.specs.Things.{state_by};
+ghost use Rattle.world_engine.specs.Running.{circuit_of, state_of, spot, given_by, AreIdle, IsHolding, FiresAll, MayFire, shown_of};
+ghost use Rattle.wiring.specs.Wired.{IsWired, bases_of};
+ghost use Rattle.world_engine.specs.Levels.{AreLevels, AreQuiet, IsPlayingBy};
 
-use crate::attend::{attend_all, attend_near, attend_near_noted};
-use crate::near::near_wires;
-use crate::sight::{cell_at, fired, shown};
-use crate::things::Things;
-use crate::wires::{resolve, solve};
+use crate::bases::{fill_bases, solve_levels};
+use crate::settle::settle_by;
+use crate::sight::cell_at;
+use crate::told::{attend_all_by, fired_by, shown_by};
 use build::{ClickRefusal, OutPlace};
 use cell_queue::Cells;
 use circuit::{Cell, Click, Pos};
 use wire_net::Waves;
+use wiring::{Things, Wiring};
 
-/// From what the build stores the wires take their powers, and all things attend.
-pub(crate) fn begin(things: &Things, powers: &mut [u8], cells: &mut Cells)
+/// From what the build stores the things take their levels, and all attend.
+pub(crate) fn begin(
+    things: &Things,
+    wiring: &Wiring,
+    bases: &mut [u8],
+    levels: &mut [u8],
+    cells: &mut Cells,
+)
+    requires wired { IsWired things.now wiring.now }
     requires cells_whole { length cells.old.cells ≡ length things.now.spots }
-    requires powers_whole { length powers.old ≡ length things.now.spots }
+    requires bases_whole { length bases.old ≡ length things.now.spots }
+    requires levels_whole { length levels.old ≡ length things.now.spots }
     requires stored { state_of things.now cells.old ≡ record { time = 0; cells = stored things.now.plan things.now.marks } }
     ensures start { state_of things.now cells.new ≡ start (circuit_of things.now) }
     ensures holding { IsHolding things.now cells.new }
-    ensures powers { ArePowers things.now cells.new.cells powers.new }
-    ensures still { AreStill things.now cells.new.cells powers.new }
+    ensures based { bases.new ≡ bases_of things.now (given_by things.now cells.new.cells) }
+    ensures right { AreLevels things.now cells.new.cells levels.new }
+    ensures quiet { AreQuiet things.now cells.new.cells levels.new }
     ensures idle { AreIdle things.now cells.new.cells }
 {
     let _ = things.count();
-    solve(things, cells, powers);
-    attend_all(things, powers, cells);
+    fill_bases(things, wiring, cells, bases);
+    solve_levels(things, wiring, cells, bases, levels);
+    attend_all_by(things, wiring, levels, cells);
 }
 
-// A thing holds another cell, the wires take their powers by it, and all components attend. No
-// other ones have to than those near the thing and near a wire whose power changed, since the
-// others read what they read before.
-fn settle(
-    things: &Things,
-    cells: &mut Cells,
-    powers: &mut [u8],
-    waves: &mut Waves,
-    number: usize,
-    cell: Cell,
-)
+// What the thing of a number holds after it has fired.
+fn fired_from(things: &Things, wiring: &Wiring, cells: &Cells, levels: &[u8], number: usize) -> Cell
     requires inside { number < length things.now.spots }
-    requires playing { IsPlaying things.now cells.old powers.old waves.old.feeders }
-    requires still { OthersStill things.now cells.old.cells powers.old (spot things.now number) }
-    requires follows { CanFollow cells.old.time (cell_of cells.old.cells number) cell }
-    requires bounded { BoundedAt (role_at things.now.plan things.now.marks (spot things.now number)) cell }
-    requires idle { role_at things.now.plan things.now.marks (spot things.now number) ≡ None → cell.due ≡ 0 }
-    ensures settled { state_of things.now cells.new ≡ attend (circuit_of things.now) (put (circuit_of things.now) (state_of things.now cells.old) (spot things.now number) cell) }
-    ensures playing { IsPlaying things.now cells.new powers.new waves.new.feeders }
-    ensures still { AreStill things.now cells.new.cells powers.new }
-{
-    let _ = things.count();
-    cells.hold(number, cell);
-    let mut changed = [0u32; 25];
-    let count = near_wires(things, number, &mut changed);
-    resolve(things, cells, powers, &changed[..count], waves);
-    attend_near(things, powers, cells, number);
-    attend_near_noted(things, powers, cells, waves);
-}
-
-// What a place holds after it has fired.
-fn fired_from(things: &Things, cells: &Cells, powers: &[u8], pos: Pos) -> Cell
+    requires wired { IsWired things.now wiring.now }
     requires holding { IsHolding things.now cells.now }
-    requires powers_whole { length powers.now ≡ length things.now.spots }
-    requires powers { ArePowers things.now cells.now.cells powers.now }
-    ensures fired { result ≡ fired_in (circuit_of things.now) (state_of things.now cells.now) pos }
-    ensures bounded { BoundedAt (role_at things.now.plan things.now.marks pos) result }
+    requires right { AreLevels things.now cells.now.cells levels.now }
+    ensures fired { result ≡ fired_in (circuit_of things.now) (state_of things.now cells.now) (spot things.now number) }
+    ensures bounded { BoundedAt (role_at things.now.plan things.now.marks (spot things.now number)) result }
 {
     let _ = things.count();
-    fired(things, cells, powers, pos)
+    fired_by(things, wiring, levels, cells, number)
 }
 
 // The thing that fires next, if something is due, fires, and all attend.
 fn fire_next(
     things: &Things,
+    wiring: &Wiring,
     cells: &mut Cells,
-    powers: &mut [u8],
+    bases: &mut [u8],
+    levels: &mut [u8],
     waves: &mut Waves,
 ) -> Option<usize>
-    requires playing { IsPlaying things.now cells.old powers.old waves.old.feeders }
-    requires still { AreStill things.now cells.old.cells powers.old }
+    requires playing { IsPlayingBy things.now wiring.now cells.old bases.old levels.old waves.old.feeders }
+    requires quiet { AreQuiet things.now cells.old.cells levels.old }
     ensures state { MayFire things.now (state_of things.now cells.old) (state_of things.now cells.new) result }
-    ensures playing { IsPlaying things.now cells.new powers.new waves.new.feeders }
-    ensures still { AreStill things.now cells.new.cells powers.new }
+    ensures playing { IsPlayingBy things.now wiring.now cells.new bases.new levels.new waves.new.feeders }
+    ensures quiet { AreQuiet things.now cells.new.cells levels.new }
 {
     let _ = things.count();
     let Some(number) = cells.take_due() else {
         return None;
     };
-    let cell = fired_from(things, cells, powers, things.spot(number));
-    settle(things, cells, powers, waves, number, cell);
+    let cell = fired_from(things, wiring, cells, levels, number);
+    settle_by(things, wiring, cells, bases, levels, waves, number, cell);
     Some(number)
 }
 
 /// Fires what is due, one by one, by rising priority.
-pub(crate) fn fire_due(things: &Things, cells: &mut Cells, powers: &mut [u8], waves: &mut Waves)
+pub(crate) fn fire_due(
+    things: &Things,
+    wiring: &Wiring,
+    cells: &mut Cells,
+    bases: &mut [u8],
+    levels: &mut [u8],
+    waves: &mut Waves,
+)
     requires late { 0 < cells.old.time }
-    requires playing { IsPlaying things.now cells.old powers.old waves.old.feeders }
-    requires still { AreStill things.now cells.old.cells powers.old }
+    requires playing { IsPlayingBy things.now wiring.now cells.old bases.old levels.old waves.old.feeders }
+    requires quiet { AreQuiet things.now cells.old.cells levels.old }
     ensures fired { FiresAll (circuit_of things.now) (state_of things.now cells.old) (state_of things.now cells.new) }
     ensures time { cells.new.time ≡ cells.old.time }
-    ensures playing { IsPlaying things.now cells.new powers.new waves.new.feeders }
-    ensures still { AreStill things.now cells.new.cells powers.new }
+    ensures playing { IsPlayingBy things.now wiring.now cells.new bases.new levels.new waves.new.feeders }
+    ensures quiet { AreQuiet things.now cells.new.cells levels.new }
     ensures none { NoneNow cells.new }
 {
     let _ = things.count();
-    while let Some(_number) = fire_next(things, cells, powers, waves) {}
+    while let Some(_number) = fire_next(things, wiring, cells, bases, levels, waves) {}
 }
 
 /// What a place takes of a click, and then all attend.
 pub(crate) fn take_click(
     things: &Things,
+    wiring: &Wiring,
     cells: &mut Cells,
-    powers: &mut [u8],
+    bases: &mut [u8],
+    levels: &mut [u8],
     waves: &mut Waves,
     pos: Pos,
     click: Click,
 ) -> Result<(), ClickRefusal>
-    requires playing { IsPlaying things.now cells.old powers.old waves.old.feeders }
-    requires still { AreStill things.now cells.old.cells powers.old }
+    requires playing { IsPlayingBy things.now wiring.now cells.old bases.old levels.old waves.old.feeders }
+    requires quiet { AreQuiet things.now cells.old.cells levels.old }
     requires none { NoneNow cells.old }
     ensures taken { OnOk result (Clicks (circuit_of things.now) pos click (state_of things.now cells.old) (state_of things.now cells.new)) }
     ensures refused { OnErr result (Takes (circuit_of things.now) pos click → ⊥) }
     ensures same { OnErr result (cells.new ≡ cells.old) }
     ensures time { cells.new.time ≡ cells.old.time }
-    ensures playing { IsPlaying things.now cells.new powers.new waves.new.feeders }
-    ensures still { AreStill things.now cells.new.cells powers.new }
+    ensures playing { IsPlayingBy things.now wiring.now cells.new bases.new levels.new waves.new.feeders }
+    ensures quiet { AreQuiet things.now cells.new.cells levels.new }
     ensures none { NoneNow cells.new }
 {
     let _ = things.count();
@@ -146,38 +140,36 @@ pub(crate) fn take_click(
         None => Err(ClickRefusal::NotClickable),
         Some(value) => {
             let clicked = Cell { value, ..cell };
-            settle(things, cells, powers, waves, number, clicked);
+            settle_by(things, wiring, cells, bases, levels, waves, number, clicked);
             Ok(())
         }
     }
 }
 
 // What a place shows.
-fn shown_at(things: &Things, cells: &Cells, powers: &[u8], pos: Pos) -> u8
+fn shown_at(things: &Things, cells: &Cells, levels: &[u8], pos: Pos) -> u8
     requires holding { IsHolding things.now cells.now }
-    requires powers_whole { length powers.now ≡ length things.now.spots }
-    requires powers { ArePowers things.now cells.now.cells powers.now }
+    requires right { AreLevels things.now cells.now.cells levels.now }
     ensures { result ≡ seen (circuit_of things.now) (state_by things.now 0 cells.now.cells) pos }
 {
     let _ = things.count();
-    shown(things, cells, powers, pos)
+    shown_by(things, levels, cells, pos)
 }
 
 /// What some places show.
 pub(crate) fn view_into(
     things: &Things,
     cells: &Cells,
-    powers: &[u8],
+    levels: &[u8],
     places: &[OutPlace],
     into: &mut [u8],
 )
     requires holding { IsHolding things.now cells.now }
-    requires powers_whole { length powers.now ≡ length things.now.spots }
-    requires powers { ArePowers things.now cells.now.cells powers.now }
+    requires right { AreLevels things.now cells.now.cells levels.now }
     requires room { length into.old ≡ length places.now }
     ensures { into.new ≡ map (shown_of things.now cells.now.cells) places.now }
 {
     for (index, place) in places.iter().enumerate() {
-        into[index] = shown_at(things, cells, powers, place.pos);
+        into[index] = shown_at(things, cells, levels, place.pos);
     }
 }

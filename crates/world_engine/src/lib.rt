@@ -2,13 +2,16 @@
 #![tactic(auto)]
 
 mod attend;
+mod bases;
 mod events;
+mod laws;
 mod near;
+mod settle;
 mod sight;
 mod stored;
 #[cfg(test)]
 mod tests;
-mod things;
+mod told;
 mod wires;
 mod world;
 

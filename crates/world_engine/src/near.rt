@@ -7,15 +7,15 @@ ghost use Rattle.build.specs.Plan.{IsNear};
 ghost use Rattle.wire_net.specs.WaveSteps.{AreBelow};
 ghost use Rattle.world_engine.specs.Near.{IsNearby, nearby, two_beside};
 ghost use Rattle.world_engine.specs.Running.{spot};
-ghost use Rattle.world_engine.specs.Things.{number_at};
+ghost use Rattle.wiring.specs.Things.{number_at};
 ghost use Rattle.world_engine.specs.WireThings.{NotesWire};
 ghost use Rattle.wire_shape.specs.Shape.{wire_at};
 
-use crate::things::Things;
 use crate::wires::{number_of, wire_there};
 use block_table::Side;
 use build::beside;
 use circuit::Pos;
+use wiring::Things;
 
 // The place after a step.
 fn step(pos: Pos, side: Side) -> Pos

@@ -5,17 +5,17 @@ ghost use Rattle.circuit.specs.Component.{attended};
 ghost use Rattle.circuit.specs.Circuit.{fired_at, seen_at};
 ghost use Rattle.build.specs.Roles.{role_at, first_at};
 ghost use Rattle.power_rules.specs.RightWires.{level_with};
-ghost use Rattle.world_engine.specs.Things.{held, nothing};
+ghost use Rattle.wiring.specs.Things.{held, nothing};
 ghost use Rattle.world_engine.specs.Running.{given_by, reads_of, AreWithin, IsHolding};
 
-use crate::things::Things;
 use cell_queue::{Cells, NOTHING};
 use circuit::{Cell, Component, Pos, Readings};
 use power_rules::{Levels, base, faces_diode, readings};
 use wire_shape::wire_at;
+use wiring::Things;
 
 /// What a place holds.
-#[tactic(auto, unfolding(crate::specs::Things::held))]
+#[tactic(auto, unfolding(wiring::specs::Things::held))]
 pub(crate) fn cell_at(things: &Things, cells: &Cells, pos: Pos) -> Cell
     ensures { result ≡ held things.now cells.now.cells nothing pos }
 {
@@ -25,9 +25,9 @@ pub(crate) fn cell_at(things: &Things, cells: &Cells, pos: Pos) -> Cell
     }
 }
 
-// The power of the thing at a place, 0 where none stands.
-#[tactic(auto, unfolding(crate::specs::Things::held))]
-fn power_at(things: &Things, powers: &[u8], pos: Pos) -> u8
+/// The power of the thing at a place, 0 where none stands.
+#[tactic(auto, unfolding(wiring::specs::Things::held))]
+pub(crate) fn power_at(things: &Things, powers: &[u8], pos: Pos) -> u8
     requires { length powers.now ≡ length things.now.spots }
     ensures { result ≡ held things.now powers.now 0 pos }
 {

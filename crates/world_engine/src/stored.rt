@@ -4,16 +4,16 @@ ghost use Rattle.std.specs.Prelude.{◌≡◌, [], ◌∷◌, List, All, IfOk, l
 ghost use Rattle.build.specs.declared.Pending.{Pending};
 ghost use Rattle.build.specs.Roles.{stored};
 ghost use Rattle.cell_queue.specs.Held.{IsSoon};
-ghost use Rattle.world_engine.specs.Things.{state_by};
+ghost use Rattle.wiring.specs.Things.{state_by};
 ghost use Rattle.world_engine.specs.Stores.{AreStored, stored_with};
 
-use crate::things::Things;
 use build::Pending;
 use cell_queue::NOTHING;
 use circuit::{Cell, Pos};
 use power_rules::stored_value;
 use rp_text::NoMemory;
 use std::alloc::Global;
+use wiring::Things;
 
 // What a place holds before the start, its tick left out.
 #[tactic(auto, unfolding(crate::specs::Stores::stored_with))]

@@ -12,7 +12,6 @@ ghost use Rattle.world_engine.specs.WireThings.{number_of, thing_cells, feeders_
 ghost use Rattle.world_engine.specs.Running.{given_by, AreWithin, ArePowers};
 
 use crate::sight::Given;
-use crate::things::Things;
 use block_table::Side;
 use build::Build;
 use cell_queue::Cells;
@@ -22,6 +21,7 @@ use rp_text::NoMemory;
 use std::alloc::Global;
 use wire_net::{Net, Waves, resolve_noted, solve_into};
 use wire_shape::{Feeders, feeders_of, wire_at};
+use wiring::Things;
 
 // The greatest power that a block reads from its six neighbours if no wire gave any.
 #[tactic(auto, unfolding(power_rules::specs::RightWires::source_power))]

@@ -6,10 +6,9 @@ ghost use Rattle.circuit.specs.Circuit.{view, start, Clicks, Ticks};
 ghost use Rattle.circuit.specs.Taken.{Takes};
 ghost use Rattle.power_rules.specs.World.{world_circuit};
 
+use crate::bases::level_waves;
 use crate::events::{begin, fire_due, take_click, view_into};
 use crate::stored::stored_cells;
-use crate::things::Things;
-use crate::wires::new_waves;
 use build::{Build, ClickRefusal, Marks, OutPlace};
 use cell_queue::Cells;
 use circuit::{Click, Pos};
@@ -17,25 +16,29 @@ use rp_text::NoMemory;
 use std::alloc::Global;
 use std::marker::Model;
 use wire_net::Waves;
+use wiring::{Things, Wiring};
 
 /// A build that runs.
 #[derive(Drop)]
 pub struct World {
     things: Things,
     places: Vec<OutPlace>,
+    wiring: Wiring,
     cells: Cells,
-    powers: Vec<u8>,
+    bases: Vec<u8>,
+    levels: Vec<u8>,
     waves: Waves,
 }
 
 impl Model for World {
-    ghost use Rattle.world_engine.specs.Running.{Running, seen_as, IsRunning};
+    ghost use Rattle.world_engine.specs.Running.{Running, seen_as};
+    ghost use Rattle.world_engine.specs.Levels.{IsRunningBy};
 
     ghost Value = { Running };
 
     ghost view = { λ w. seen_as w.things w.cells.time w.cells.cells };
 
-    ghost invariant = { λ w. IsRunning w.things w.places.items w.cells w.powers.items w.waves.feeders };
+    ghost invariant = { λ w. IsRunningBy w.things w.wiring w.places.items w.cells w.bases.items w.levels.items w.waves.feeders };
 }
 
 impl World {
@@ -51,14 +54,18 @@ impl World {
         let things = Things::new(alloc, build, marks)?;
         let places = things.outputs(alloc)?;
         let mut cells = Cells::new(alloc, stored_cells(alloc, &things)?)?;
-        let mut powers = vec![in alloc; 0u8; things.count()]?;
-        begin(&things, &mut powers, &mut cells);
-        let waves = new_waves(alloc, &things, &cells)?;
+        let wiring = Wiring::new(alloc, &things)?;
+        let mut bases = vec![in alloc; 0u8; things.count()]?;
+        let mut levels = vec![in alloc; 0u8; things.count()]?;
+        begin(&things, &wiring, &mut bases, &mut levels, &mut cells);
+        let waves = level_waves(alloc, &things, &wiring, &cells, &bases)?;
         Ok(World {
             things,
             places,
+            wiring,
             cells,
-            powers,
+            bases,
+            levels,
             waves,
         })
     }
@@ -75,8 +82,10 @@ impl World {
     {
         take_click(
             &self.things,
+            &self.wiring,
             &mut self.cells,
-            &mut self.powers,
+            &mut self.bases,
+            &mut self.levels,
             &mut self.waves,
             pos,
             click,
@@ -94,8 +103,10 @@ impl World {
         self.cells.advance();
         fire_due(
             &self.things,
+            &self.wiring,
             &mut self.cells,
-            &mut self.powers,
+            &mut self.bases,
+            &mut self.levels,
             &mut self.waves,
         );
     }
@@ -120,6 +131,6 @@ impl World {
         ensures values { into.new ≡ view (world_circuit self.now.plan self.now.marks) (state_in self.now) }
         ensures small { All (λ value. value ≤ 15) into.new }
     {
-        view_into(&self.things, &self.cells, &self.powers, &self.places, into);
+        view_into(&self.things, &self.cells, &self.levels, &self.places, into);
     }
 }

@@ -1,6 +1,6 @@
 use Rattle.std.proofs.Common.{◌≡◌, ℕ, refl, subst, length, ap, ◌∙◌, arith}
 use Rattle.circuit.specs.declared.Pos.{Pos}
-use Rattle.world_engine.specs.Things.{state_by}
+use Rattle.wiring.specs.Things.{state_by}
 use Rattle.world_engine.specs.Running.{Attends}
 use Rattle.world_engine.proofs.NearSteps.{at_time}
 use Rattle.world_engine.proofs.Steps.{Below, attends-start, attends-more, attends_all, still_all, powers-attends}

@@ -18,7 +18,7 @@ loop-number-preserved c =
       fired = fires_next m (state_of m c.args.cells.now) (state_of m c.loop-number.cells) (state_of m c.fire_next.new.cells) (spot m c.in-Some._number) c.loop-number.invariant.fired c.in-Some.ensures.state.1;
       time = ap (λ (s : State Pos). s.time) c.in-Some.ensures.state.1.after ∙ c.loop-number.invariant.time;
       playing = c.in-Some.ensures.playing;
-      still = c.in-Some.ensures.still;
+      quiet = c.in-Some.ensures.quiet;
     }
 
 pub returns-clause-fired : goal.returns-clause-fired

@@ -1,5 +1,5 @@
 use Rattle.std.proofs.Common.{◌∷◌, ℕ, sym, ◌∙◌, refl, get_or, set, subst}
-use Rattle.world_engine.specs.Things.{nothing}
+use Rattle.wiring.specs.Things.{nothing}
 use Rattle.world_engine.specs.Stores.{AreStored}
 use Rattle.world_engine.proofs.Storing.{tick_nowhere, tick_outside, tick_there}
 use Rattle.world_engine.proofs.stored.put_tick.Goals as goal

@@ -4,7 +4,7 @@ use Rattle.std.proofs.lemmas.List.{with_items_is}
 use Rattle.std.proofs.Common.{◌≡◌, List, length, sym, ap, subst, ◌∙◌, arith}
 use Rattle.circuit.specs.declared.Cell.{Cell}
 use Rattle.cell_queue.specs.Held.{IsSoon}
-use Rattle.world_engine.specs.Things.{state_by}
+use Rattle.wiring.specs.Things.{state_by}
 use Rattle.world_engine.proofs.Steps.{all-stored}
 use Rattle.world_engine.proofs.Starting.{cells_soon}
 use Rattle.world_engine.proofs.Storing.{stored_all}

@@ -1,6 +1,6 @@
 use Rattle.std.proofs.Common.{◌≡◌, ◌<◌, ℕ, [], length, get_or}
 use Rattle.world_engine.specs.Stores.{stored_with}
-use Rattle.world_engine.specs.Things.{nothing}
+use Rattle.wiring.specs.Things.{nothing}
 use Rattle.world_engine.specs.Running.{spot}
 use Rattle.world_engine.proofs.stored.stored_cells.Given as goal
 

@@ -5,7 +5,7 @@ use Rattle.circuit.specs.declared.Pos.{Pos}
 use Rattle.circuit.specs.Circuit.{State, start}
 use Rattle.build.specs.Plan.{Plan}
 use Rattle.power_rules.specs.World.{world_circuit}
-use Rattle.world_engine.specs.Running.{AreStill, ArePowers}
+use Rattle.world_engine.specs.Levels.{AreLevels, AreQuiet}
 use Rattle.world_engine.proofs.Held.{state-seen}
 use Rattle.world_engine.proofs.Playing.{none_at_start}
 use Rattle.world_engine.proofs.world.World.start.Goals as goal
@@ -13,22 +13,25 @@ use Rattle.world_engine.proofs.world.World.start.Goals as goal
 pub invariant_of-result : goal.invariant_of-result
 invariant_of-result c =
     let m = c.in_ok-things.things in
+    let t = c.in_ok-wiring.wiring in
     let cells = c.begin.new.cells in
-    let powers : (with_items c.in_ok-powers.powers c.begin.new.powers).items ≡ c.begin.new.powers =
-    with_items_is c.in_ok-powers.powers c.begin.new.powers (c.begin.auto.powers ∙ ap (λ (ps : List ℕ). length ps) c.deref_mut.ensures.value ∙ sym c.in_ok-powers.powers.ok.0) in
+    let bases : (with_items c.in_ok-bases.bases c.begin.new.bases).items ≡ c.begin.new.bases =
+    with_items_is c.in_ok-bases.bases c.begin.new.bases (c.begin.auto.bases ∙ ap (λ (ps : List ℕ). length ps) c.deref_mut.ensures.value ∙ sym c.in_ok-bases.bases.ok.0) in
+    let levels : (with_items c.in_ok-levels.levels c.begin.new.levels).items ≡ c.begin.new.levels =
+    with_items_is c.in_ok-levels.levels c.begin.new.levels (c.begin.auto.levels ∙ ap (λ (ps : List ℕ). length ps) c.deref_mut-2.ensures.value ∙ sym c.in_ok-levels.levels.ok.0) in
     let time : cells.time ≡ 0 = ap (λ (s : State Pos). s.time) c.begin.ensures.start in
     record {
       numbered = c.count.ensures.numbered;
       shown = c.in_ok-places.ensures;
       playing = record {
+        wired = c.in_ok-wiring.ensures;
         holding = c.begin.ensures.holding;
-        powers_whole = ap (λ (ps : List ℕ). length ps) powers ∙ c.begin.auto.powers ∙ ap (λ (ps : List ℕ). length ps) c.deref_mut.ensures.value
-            ∙ sym c.in_ok-powers.powers.ok.0 ∙ c.in_ok-powers.ensures.len ∙ c.count.ensures.count;
-        solved = subst (λ (ps : List ℕ). ArePowers m cells.cells ps) (sym powers) c.begin.ensures.powers;
+        based = bases ∙ c.begin.ensures.based;
+        solved = subst (λ (xs : List ℕ). AreLevels m cells.cells xs) (sym levels) c.begin.ensures.right;
         made = c.in_ok-waves.ensures;
         idle = c.begin.ensures.idle;
       };
-      still = subst (λ (ps : List ℕ). AreStill m cells.cells ps) (sym powers) c.begin.ensures.still;
+      quiet = subst (λ (xs : List ℕ). AreQuiet m cells.cells xs) (sym levels) c.begin.ensures.quiet;
       none = none_at_start cells time;
       early = omega (arith, time);
     }

@@ -1,0 +1,6 @@
+pub mod Taps
+pub mod Readers
+pub mod Reads
+pub mod Things
+pub mod Numbers
+pub mod Wired

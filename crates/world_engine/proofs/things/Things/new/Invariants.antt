@@ -1,5 +1,0 @@
-use Rattle.world_engine.specs.Things.{IsNumberedTo}
-use Rattle.world_engine.proofs.things.Things.new.Given as goal
-
-abbrev pub invariant-loop-cell : goal.invariant-loop-cell
-invariant-loop-cell l = IsNumberedTo l.build l.cell l.spots.items l.numbers.items

@@ -1,0 +1,265 @@
+//! How things attend by the levels of their taps.
+
+ghost use Rattle.std.specs.Prelude.{◌≡◌, ◌<◌, IsTrue, Some, false, length};
+ghost use Rattle.build.specs.Plan.{in_box, block_at};
+ghost use Rattle.build.specs.Roles.{direct_at, far_at, first_at, role_at};
+ghost use Rattle.circuit.specs.Component.{attended};
+ghost use Rattle.circuit.specs.Circuit.{attend, fired_at, seen_at};
+ghost use Rattle.circuit.specs.declared.Component.TheVariants.{Wire};
+ghost use Rattle.cell_queue.specs.Held.{cell_of};
+ghost use Rattle.wire_net.specs.Noted.{AreCells};
+ghost use Rattle.wire_net.specs.WaveSteps.{Has};
+ghost use Rattle.wire_shape.specs.Shape.{wire_at};
+ghost use Rattle.power_rules.specs.Power.{or_direct, or_far};
+ghost use Rattle.wiring.specs.Things.{held, nothing, spot};
+ghost use Rattle.wiring.specs.Reads.{IsPlain, back_with};
+ghost use Rattle.wiring.specs.Wired.{IsWired};
+ghost use Rattle.world_engine.specs.Running.{circuit_of, given_by, state_of, IsHolding};
+ghost use Rattle.world_engine.specs.Levels.{AreLevels, AreQuiet, reads_by, HaveAttended, IsReader, IsReaderOf, IsTold};
+
+use crate::bases::{is_wire_of, row_level};
+use crate::sight::{cell_at, power_at};
+use block_table::{Block, Side};
+use build::Build;
+use cell_queue::Cells;
+use circuit::{Cell, Component, Pos, Readings};
+use power_rules::{direct_strength, faces_diode, far_strength};
+use wire_net::Waves;
+use wiring::{Things, Wiring};
+
+// What a comparator reads of its back, where its taps give so much.
+fn measured(build: &Build, pos: Pos, facing: Side, power: u8) -> u8
+    requires { IsTrue (in_box build.now pos) }
+    ensures { result ≡ or_direct (direct_at build.now pos facing) (or_far (far_at build.now pos facing) power) }
+{
+    if let Some(strength) = direct_strength(build, pos, facing) {
+        return strength;
+    }
+    match far_strength(build, pos, facing) {
+        Some(strength) if power < 15 => strength,
+        _ => power,
+    }
+}
+
+// What is read of a back, where its taps give so much.
+fn strengthened(build: &Build, pos: Pos, power: u8) -> u8
+    requires { IsTrue (in_box build.now pos) }
+    ensures { result ≡ back_with build.now pos (block_at build.now pos) power }
+{
+    match build.at(pos) {
+        Block::Comparator { facing, .. } => measured(build, pos, facing, power),
+        _ => power,
+    }
+}
+
+// What a thing that is no wire reads.
+fn reads_of(things: &Things, wiring: &Wiring, levels: &[u8], number: usize) -> Readings
+    requires inside { number < length things.now.spots }
+    requires dry { wire_at things.now.plan (spot things.now number) ≡ false }
+    requires wired { IsWired things.now wiring.now }
+    requires whole { length levels.now ≡ length things.now.spots }
+    requires plain { IsPlain things.now.plan (held things.now levels.now 0) }
+    ensures { result ≡ reads_by things.now levels.now (spot things.now number) }
+{
+    let _ = things.count();
+    let back = row_level(levels, wiring.back(number));
+    let side = row_level(levels, wiring.side(number));
+    Readings {
+        back: strengthened(things.build(), things.spot(number), back),
+        side,
+    }
+}
+
+// What a component that is no wire holds after it has attended.
+fn attended_of(
+    things: &Things,
+    wiring: &Wiring,
+    levels: &[u8],
+    cells: &Cells,
+    number: usize,
+    component: Component,
+) -> Cell
+    requires inside { number < length things.now.spots }
+    requires dry { wire_at things.now.plan (spot things.now number) ≡ false }
+    requires wired { IsWired things.now wiring.now }
+    requires whole { length levels.now ≡ length things.now.spots }
+    requires plain { IsPlain things.now.plan (held things.now levels.now 0) }
+    requires holding { IsHolding things.now cells.now }
+    ensures { result ≡ attended cells.now.time component (first_at things.now.plan (spot things.now number)) (reads_by things.now levels.now (spot things.now number)) (cell_of cells.now.cells number) }
+{
+    circuit::attended(
+        cells.now(),
+        component,
+        faces_diode(things.build(), things.spot(number)),
+        reads_of(things, wiring, levels, number),
+        cells.cell(number),
+    )
+}
+
+// The thing of a number attends.
+fn attend_thing(things: &Things, wiring: &Wiring, levels: &[u8], cells: &mut Cells, number: usize)
+    requires inside { number < length things.now.spots }
+    requires wired { IsWired things.now wiring.now }
+    requires whole { length levels.now ≡ length things.now.spots }
+    requires plain { IsPlain things.now.plan (held things.now levels.now 0) }
+    requires holding { IsHolding things.now cells.old }
+    ensures attended { HaveAttended things.now cells.old.time levels.now cells.old.cells cells.new.cells (λ p. p ≡ spot things.now number) }
+    ensures holding { IsHolding things.now cells.new }
+    ensures time { cells.new.time ≡ cells.old.time }
+{
+    let _ = things.count();
+    if is_wire_of(things, number) {
+        return;
+    }
+    let Some(component) = things.role(things.spot(number)) else {
+        return;
+    };
+    let cell = attended_of(things, wiring, levels, cells, number, component);
+    cells.hold(number, cell);
+}
+
+// The readers that tap a thing attend.
+fn attend_readers(things: &Things, wiring: &Wiring, levels: &[u8], cells: &mut Cells, tap: usize)
+    requires wired { IsWired things.now wiring.now }
+    requires whole { length levels.now ≡ length things.now.spots }
+    requires plain { IsPlain things.now.plan (held things.now levels.now 0) }
+    requires holding { IsHolding things.now cells.old }
+    ensures attended { HaveAttended things.now cells.old.time levels.now cells.old.cells cells.new.cells (IsReader things.now wiring.now tap) }
+    ensures holding { IsHolding things.now cells.new }
+    ensures time { cells.new.time ≡ cells.old.time }
+{
+    for reader in wiring.readers(tap) {
+        attend_thing(things, wiring, levels, cells, *reader as usize);
+    }
+}
+
+// The readers that tap one of these things attend.
+fn attend_readers_of(
+    things: &Things,
+    wiring: &Wiring,
+    levels: &[u8],
+    cells: &mut Cells,
+    taps: &[u32],
+)
+    requires wired { IsWired things.now wiring.now }
+    requires whole { length levels.now ≡ length things.now.spots }
+    requires plain { IsPlain things.now.plan (held things.now levels.now 0) }
+    requires holding { IsHolding things.now cells.old }
+    ensures attended { HaveAttended things.now cells.old.time levels.now cells.old.cells cells.new.cells (IsReaderOf things.now wiring.now (Has taps.now)) }
+    ensures holding { IsHolding things.now cells.new }
+    ensures time { cells.new.time ≡ cells.old.time }
+{
+    for tap in taps {
+        attend_readers(things, wiring, levels, cells, *tap as usize);
+    }
+}
+
+/// The thing of a number attends, and so do the readers that tap a thing whose level changed.
+pub(crate) fn attend_told(
+    things: &Things,
+    wiring: &Wiring,
+    levels: &[u8],
+    cells: &mut Cells,
+    number: usize,
+    waves: &Waves,
+)
+    requires inside { number < length things.now.spots }
+    requires cells { AreCells (length things.now.spots) waves.now }
+    requires wired { IsWired things.now wiring.now }
+    requires whole { length levels.now ≡ length things.now.spots }
+    requires plain { IsPlain things.now.plan (held things.now levels.now 0) }
+    requires holding { IsHolding things.now cells.old }
+    ensures attended { HaveAttended things.now cells.old.time levels.now cells.old.cells cells.new.cells (IsTold things.now wiring.now number waves.now) }
+    ensures holding { IsHolding things.now cells.new }
+    ensures time { cells.new.time ≡ cells.old.time }
+{
+    attend_thing(things, wiring, levels, cells, number);
+    attend_readers_of(things, wiring, levels, cells, waves.fallen());
+    for power in 0..16u8 {
+        attend_readers_of(things, wiring, levels, cells, waves.risen(power));
+    }
+}
+
+/// All things attend.
+pub(crate) fn attend_all_by(things: &Things, wiring: &Wiring, levels: &[u8], cells: &mut Cells)
+    requires wired { IsWired things.now wiring.now }
+    requires right { AreLevels things.now cells.old.cells levels.now }
+    requires holding { IsHolding things.now cells.old }
+    ensures attended { state_of things.now cells.new ≡ attend (circuit_of things.now) (state_of things.now cells.old) }
+    ensures holding { IsHolding things.now cells.new }
+    ensures same { given_by things.now cells.new.cells ≡ given_by things.now cells.old.cells }
+    ensures quiet { AreQuiet things.now cells.new.cells levels.now }
+{
+    for number in 0..things.count() {
+        attend_thing(things, wiring, levels, cells, number);
+    }
+}
+
+// What the thing of a number reads. A wire reads itself.
+fn reads_any(things: &Things, wiring: &Wiring, levels: &[u8], number: usize) -> Readings
+    requires inside { number < length things.now.spots }
+    requires wired { IsWired things.now wiring.now }
+    requires whole { length levels.now ≡ length things.now.spots }
+    requires plain { IsPlain things.now.plan (held things.now levels.now 0) }
+    ensures { result ≡ reads_by things.now levels.now (spot things.now number) }
+{
+    let _ = things.count();
+    if is_wire_of(things, number) {
+        Readings {
+            back: levels[number],
+            side: 0,
+        }
+    } else {
+        reads_of(things, wiring, levels, number)
+    }
+}
+
+/// What the thing of a number holds after it has fired.
+pub(crate) fn fired_by(
+    things: &Things,
+    wiring: &Wiring,
+    levels: &[u8],
+    cells: &Cells,
+    number: usize,
+) -> Cell
+    requires inside { number < length things.now.spots }
+    requires wired { IsWired things.now wiring.now }
+    requires whole { length levels.now ≡ length things.now.spots }
+    requires plain { IsPlain things.now.plan (held things.now levels.now 0) }
+    requires holding { IsHolding things.now cells.now }
+    ensures { result ≡ fired_at cells.now.time (role_at things.now.plan things.now.marks (spot things.now number)) (first_at things.now.plan (spot things.now number)) (reads_by things.now levels.now) (spot things.now number) (cell_of cells.now.cells number) }
+{
+    let cell = cells.cell(number);
+    let pos = things.spot(number);
+    match things.role(pos) {
+        Some(component) => circuit::fired(
+            cells.now(),
+            component,
+            faces_diode(things.build(), pos),
+            reads_any(things, wiring, levels, number),
+            cell,
+        ),
+        None => cell,
+    }
+}
+
+// What a wire that is looked at shows.
+fn wire_shows(things: &Things, levels: &[u8], pos: Pos) -> u8
+    requires wire { role_at things.now.plan things.now.marks pos ≡ Some Wire }
+    requires whole { length levels.now ≡ length things.now.spots }
+    ensures { result ≡ (reads_by things.now levels.now pos).back }
+{
+    power_at(things, levels, pos)
+}
+
+/// What a place shows: a wire its power, every other component its value.
+pub(crate) fn shown_by(things: &Things, levels: &[u8], cells: &Cells, pos: Pos) -> u8
+    requires whole { length levels.now ≡ length things.now.spots }
+    ensures { result ≡ seen_at (role_at things.now.plan things.now.marks pos) (reads_by things.now levels.now) pos (held things.now cells.now.cells nothing pos) }
+{
+    match things.role(pos) {
+        Some(Component::Wire) => wire_shows(things, levels, pos),
+        Some(_) => cell_at(things, cells, pos).value,
+        None => 0,
+    }
+}

@@ -1,0 +1,5 @@
+pub use Rattle.circuit.specs.Keys
+pub use Rattle.power_rules.specs.World
+pub mod Begun
+pub mod OrderText
+pub mod BadLine
