@@ -1,17 +1,16 @@
 -- How the writing of a run of a graph goes on.
-use Rattle.std.proofs.Common.{◌≡◌, ℕ, ◌+◌, ◌≤◌, List, [], ◌∷◌, length, refl, sym, ap, subst, ◌∙◌, arith, Option}
-use Rattle.std.proofs.Common.{zero, suc}
+use Rattle.std.proofs.Common.{◌≡◌, ℕ, zero, suc, ◌+◌, ◌≤◌, Bool, true, false, IsTrue, List, [], ◌∷◌, ◌++◌, length, refl, sym, ap, subst, ◌∙◌, arith, Option}
+use Rattle.std.specs.List.{flat_map}
 use Rattle.std.proofs.lemmas.List.Sums.{sum_by-cons}
 use Rattle.circuit.specs.declared.Act.{Act}
 use Rattle.circuit.specs.declared.Act.TheVariants.{Click as ClickAct, Ticks as TicksAct}
 use Rattle.circuit.specs.declared.Step.{Step}
 use Rattle.circuit.specs.declared.Step.TheVariants.{Click as ClickAt, Tick as OneTick}
-use Rattle.circuit.specs.Circuit.{State, view}
-use Rattle.circuit.specs.Shows.{steps_of, ticks}
+use Rattle.circuit.specs.Circuit.{State, start, view}
+use Rattle.circuit.specs.Shows.{clicks_in, fires_in, steps_of, ticks}
 use Rattle.circuit.specs.Taken.{EachActTaken}
-use Rattle.circuit.proofs.Runs.{taken-steps_of}
+use Rattle.circuit.proofs.Runs.{run_exists, taken-steps_of}
 use Rattle.rp_io.specs.Causes.{appended, WrotePrefix}
-use Rattle.rp_io.proofs.Written.{wrote_both, prefix_more, prefix_after}
 use Rattle.graph.specs.Graph.{Nodes, node_count, link_count}
 use Rattle.graph.specs.GraphCircuit.{graph_circuit}
 use Rattle.graph.proofs.ListedSteps.{graph_is_listed}
@@ -19,10 +18,10 @@ use Rattle.graph_machine.specs.Outgoing.{reads_of}
 use Rattle.report.specs.declared.Counts.{Counts}
 use Rattle.report.specs.Trailers.{run_trailer}
 use Rattle.script.specs.Acts.{ticks_of, ticks_in}
-use Rattle.player.specs.Moments.{run_text}
-use Rattle.player.specs.Played.{StepTo, TakesStep, with_events, WroteGraphRunPrefix, EndedWith}
-use Rattle.player.specs.AnyRun.{StepsOn, WroteText, WroteTextPrefix}
-use Rattle.player.proofs.Going.{events_of, cost_of, stopped_first, last_of_plays}
+use Rattle.player.specs.Played.{StepTo, NotesStep, ShowsCounted, RanGraph, WroteGraphRun, WroteGraphRunPrefix, with_events}
+use Rattle.player.specs.Noted.{fires_noted, node_lines}
+use Rattle.player.specs.AnyRun.{StepsOn, RunsTo, WroteText, WroteTextPrefix, noted_of}
+use Rattle.player.proofs.Going.{events_of, cost_of, last_of_plays, plain_text}
 
 -- ---- how many steps there are
 
@@ -37,85 +36,103 @@ length-steps_of (TicksAct n ∷ acts) = omega (arith, length-ticks n (steps_of a
 
 -- ---- a step of the machine is a step of the circuit
 
-abbrev pub step_of : (g : Nodes) (step : Step) (s next : State ℕ) (e1 e2 r1 r2 : ℕ) → TakesStep g step s next e1 e2 r1 r2 → StepTo (graph_circuit g) step s next
-step_of g (ClickAt pos click) s next e1 e2 r1 r2 t = t.0.clicks
-step_of g OneTick s next e1 e2 r1 r2 t = (t.0, t.1.ticks)
+module _ (g : Nodes) (noting : Bool) (s next : State ℕ) (e1 e2 r1 r2 : ℕ) (noted : List ℕ) where
+  abbrev pub step_of : (step : Step) → NotesStep g noting step s next e1 e2 r1 r2 noted → StepTo (graph_circuit g) step s next
+  step_of (ClickAt pos click) t = t.0.clicks
+  step_of OneTick t = (t.0, t.1.ticks)
 
-step_events : (g : Nodes) (step : Step) (s next : State ℕ) (e1 e2 r1 r2 : ℕ) (t : TakesStep g step s next e1 e2 r1 r2) → e2 ≡ e1 + events_of (graph_circuit g) step s next (step_of g step s next e1 e2 r1 r2 t)
-step_events g (ClickAt pos click) s next e1 e2 r1 r2 t = t.1
-step_events g OneTick s next e1 e2 r1 r2 t = t.1.events
+  step_events : (step : Step) (t : NotesStep g noting step s next e1 e2 r1 r2 noted) → e2 ≡ e1 + events_of (graph_circuit g) step s next (step_of step t)
+  step_events (ClickAt pos click) t = t.1
+  step_events OneTick t = t.1.events
 
-step_reads : (g : Nodes) (step : Step) (s next : State ℕ) (e1 e2 r1 r2 : ℕ) (t : TakesStep g step s next e1 e2 r1 r2) → r2 ≤ r1 + cost_of (graph_circuit g) (reads_of g) step s next (step_of g step s next e1 e2 r1 r2 t)
-step_reads g (ClickAt pos click) s next e1 e2 r1 r2 t = t.0.reads
-step_reads g OneTick s next e1 e2 r1 r2 t = t.1.reads
+  step_reads : (step : Step) (t : NotesStep g noting step s next e1 e2 r1 r2 noted) → r2 ≤ r1 + cost_of (graph_circuit g) (reads_of g) step s next (step_of step t)
+  step_reads (ClickAt pos click) t = t.0.reads
+  step_reads OneTick t = t.1.reads
 
-pub steps_on : (g : Nodes) (step : Step) (s next : State ℕ) (e1 e2 r1 r2 : ℕ) → TakesStep g step s next e1 e2 r1 r2 →
-    StepsOn (graph_circuit g) (reads_of g) step s next (λ count. count ≡ e1) (λ count. count ≡ e2) r1 r2
-steps_on g step s next e1 e2 r1 r2 t = record {
-  to = step_of g step s next e1 e2 r1 r2 t;
-  events = λ count right. ap (λ (n : ℕ). n + events_of (graph_circuit g) step s next (step_of g step s next e1 e2 r1 r2 t)) right ∙ sym (step_events g step s next e1 e2 r1 r2 t);
-  reads = step_reads g step s next e1 e2 r1 r2 t;
+-- what is noted of the step
+step_notes : (noting : Bool) (g : Nodes) (step : Step) (s next : State ℕ) (e1 e2 r1 r2 : ℕ) (noted : List ℕ) (t : NotesStep g noting step s next e1 e2 r1 r2 noted) →
+    fires_noted noting g noted ≡ noted_of (graph_circuit g) (fires_noted noting g) step s next (step_of g noting s next e1 e2 r1 r2 noted step t)
+step_notes true g (ClickAt pos click) s next e1 e2 r1 r2 noted t = ap (flat_map (node_lines g)) t.2
+step_notes false g (ClickAt pos click) s next e1 e2 r1 r2 noted t = refl
+step_notes true g OneTick s next e1 e2 r1 r2 noted t = ap (flat_map (node_lines g)) (t.2 tt)
+step_notes false g OneTick s next e1 e2 r1 r2 noted t = refl
+
+pub steps_on : (g : Nodes) (noting : Bool) (step : Step) (s next : State ℕ) (e1 e2 r1 r2 : ℕ) (noted : List ℕ) → NotesStep g noting step s next e1 e2 r1 r2 noted →
+    StepsOn (graph_circuit g) (reads_of g) (fires_noted noting g) step s next (λ count. count ≡ e1) (λ count. count ≡ e2) r1 r2 (fires_noted noting g noted)
+steps_on g noting step s next e1 e2 r1 r2 noted t = record {
+  to = step_of g noting s next e1 e2 r1 r2 noted step t;
+  events = λ count right. ap (λ (n : ℕ). n + events_of (graph_circuit g) step s next (step_of g noting s next e1 e2 r1 r2 noted step t)) right ∙ sym (step_events g noting s next e1 e2 r1 r2 noted step t);
+  reads = step_reads g noting s next e1 e2 r1 r2 noted step t;
+  notes = step_notes noting g step s next e1 e2 r1 r2 noted t;
 }
 
 -- ---- a run that was written is one of the graph
 
-module _ (g : Nodes) (header : List ℕ) (counts : Counts) (acts : List Act) (nodes : counts.nodes ≡ node_count g) (links : counts.links ≡ link_count g) where
+module _ (g : Nodes) (counts : Counts) (acts : List Act) (nodes : counts.nodes ≡ node_count g) (links : counts.links ≡ link_count g) where
   abbrev end_of : ℕ → List ℕ
   end_of events = run_trailer (with_events counts events)
 
-  pub ended_text : (before now : Option (List ℕ)) (events reads reads_after : ℕ) (last : State ℕ) (values : List ℕ) → values ≡ view (graph_circuit g) last →
-      WroteText (graph_circuit g) (reads_of g) header acts end_of (λ count. count ≡ events) before now reads reads_after last →
-      EndedWith g [] header acts (with_events counts events) values before now reads reads_after
-  ended_text before now events reads reads_after last values seen text = subst (λ (count : ℕ). EndedWith g [] header acts (with_events counts count) values before now reads reads_after) text.right (record {
-    run = record {
-      views = text.views;
-      run = record { shown = record { order = text.order; last = last; plays = text.plays; count = text.count }; nodes = nodes; links = links };
-      wrote = text.wrote;
-      reads = text.spends;
-    };
-    last = seen ∙ sym (last_of_plays text.plays);
+  pub ran : (events reads reads_after : ℕ) (last : State ℕ) (values : List ℕ) → values ≡ view (graph_circuit g) last →
+      RunsTo (graph_circuit g) (reads_of g) acts (λ count. count ≡ events) reads reads_after last → RanGraph g acts (with_events counts events) values last reads reads_after
+  ran events reads reads_after last values seen runs = subst (λ (count : ℕ). RanGraph g acts (with_events counts count) values last reads reads_after) runs.right (record {
+    views = runs.views;
+    run = record { shown = record { order = runs.order; last = last; plays = runs.plays; count = runs.count }; nodes = nodes; links = links };
+    values = seen ∙ sym (last_of_plays runs.plays);
+    ends = refl;
+    reads = runs.spends;
   })
 
-  pub part_text : (before now : Option (List ℕ)) → WroteTextPrefix (graph_circuit g) header acts end_of before now → WroteGraphRunPrefix g [] header acts before now
-  part_text before now text = record {
+  pub whole_text : (noting : Bool) (header : List ℕ) (before now : Option (List ℕ)) (events reads reads_after : ℕ) (last : State ℕ) →
+      WroteText (graph_circuit g) (reads_of g) (fires_noted noting g) header acts end_of (λ count. count ≡ events) before now reads reads_after last →
+      WroteGraphRun noting g header acts (with_events counts events) before now reads reads_after
+  whole_text true header before now events reads reads_after last text = subst (λ (count : ℕ). WroteGraphRun true g header acts (with_events counts count) before now reads reads_after) text.runs.right (record {
+    views = text.runs.views;
+    run = record { shown = record { order = text.runs.order; last = last; plays = text.runs.plays; count = text.runs.count }; nodes = nodes; links = links };
+    wrote = text.wrote;
+    reads = text.runs.spends;
+  })
+  whole_text false header before now events reads reads_after last text = subst (λ (count : ℕ). WroteGraphRun false g header acts (with_events counts count) before now reads reads_after) text.runs.right (record {
+    views = text.runs.views;
+    run = record { shown = record { order = text.runs.order; last = last; plays = text.runs.plays; count = text.runs.count }; nodes = nodes; links = links };
+    wrote = text.wrote ∙ ap (appended before) (plain_text header acts text.runs.order text.runs.views last (end_of text.runs.events) text.runs.plays);
+    reads = text.runs.spends;
+  })
+
+  pub part_text : (noting : Bool) (header : List ℕ) (before now : Option (List ℕ)) (reads reads_after : ℕ) →
+      WroteTextPrefix (graph_circuit g) (reads_of g) (fires_noted noting g) header acts end_of before now reads reads_after → WroteGraphRunPrefix noting g header acts before now reads reads_after
+  part_text true header before now reads reads_after text = record {
     views = text.views;
     counts = with_events counts text.events;
-    run = record { shown = text.shown; nodes = nodes; links = links };
+    run = record { shown = record { order = text.order; last = text.last; plays = text.plays; count = text.count }; nodes = nodes; links = links };
     wrote = text.wrote;
+    reads = text.spends;
+  }
+  part_text false header before now reads reads_after text = record {
+    views = text.views;
+    counts = with_events counts text.events;
+    run = record { shown = record { order = text.order; last = text.last; plays = text.plays; count = text.count }; nodes = nodes; links = links };
+    wrote = subst (λ (bytes : List ℕ). WrotePrefix before now bytes) (plain_text header acts text.order text.views text.last (end_of text.events) text.plays) text.wrote;
+    reads = text.spends;
   }
 
--- ---- behind what was written first
+-- ---- some run
 
-pub behind : (g : Nodes) (front header : List ℕ) (acts : List Act) (counts : Counts) (values : List ℕ) (before mid now : Option (List ℕ)) (r1 r2 : ℕ) → mid ≡ appended before front →
-    EndedWith g [] header acts counts values mid now r1 r2 → EndedWith g front header acts counts values before now r1 r2
-behind g front header acts counts values before mid now r1 r2 first done = record {
-  run = record {
-    views = done.run.views;
-    run = done.run.run;
-    wrote = wrote_both before mid now front (run_text header acts done.run.views (run_trailer counts)) first done.run.wrote;
-    reads = done.run.reads;
-  };
-  last = done.last;
-}
+-- views of a run, with its counts
+pub record SomeRun (g : Nodes) (acts : List Act) : Type 0 where
+  pub views : List (List ℕ)
+  pub counts : Counts
+  pub run : ShowsCounted g acts views counts
 
-pub part_behind : (g : Nodes) (front header : List ℕ) (acts : List Act) (before mid now : Option (List ℕ)) → mid ≡ appended before front →
-    WroteGraphRunPrefix g [] header acts mid now → WroteGraphRunPrefix g front header acts before now
-part_behind g front header acts before mid now first part = record {
-  views = part.views;
-  counts = part.counts;
-  run = part.run;
-  wrote = prefix_after before mid now front (run_text header acts part.views (run_trailer part.counts)) first part.wrote;
-}
-
--- the sink failed in what comes first
-pub stopped_front : (g : Nodes) (front header : List ℕ) (acts : List Act) (counts : Counts) (before now : Option (List ℕ)) → counts.nodes ≡ node_count g → counts.links ≡ link_count g → EachActTaken (graph_circuit g) acts →
-    WrotePrefix before now front → WroteGraphRunPrefix g front header acts before now
-stopped_front g front header acts counts before now nodes links taken wrote =
-    let some = stopped_first (graph_circuit g) (reads_of g) header acts (λ events. run_trailer (with_events counts events)) before 0 (appended before []) (graph_is_listed g) (taken-steps_of (graph_circuit g) acts taken)
-    (record { front = []; rest = header; split = refl; wrote = refl }) in
+-- a graph has a run by acts whose clicks it takes
+pub some_run : (g : Nodes) (acts : List Act) → EachActTaken (graph_circuit g) acts → SomeRun g acts
+some_run g acts taken =
+    let run = run_exists (graph_is_listed g) (steps_of acts) (taken-steps_of (graph_circuit g) acts taken) (start (graph_circuit g)) in
     record {
-      views = some.views;
-      counts = with_events counts some.events;
-      run = record { shown = some.shown; nodes = nodes; links = links };
-      wrote = prefix_more before now front (run_text header acts some.views (run_trailer (with_events counts some.events))) wrote;
+      views = view (graph_circuit g) (start (graph_circuit g)) ∷ run.1;
+      counts = record { nodes = node_count g; links = link_count g; events = clicks_in acts + fires_in run.0 };
+      run = record {
+        shown = record { order = run.0; last = run.2; plays = record { rest = run.1; at_start = refl; run = run.3 }; count = refl };
+        nodes = refl;
+        links = refl;
+      };
     }

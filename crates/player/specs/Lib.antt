@@ -1,6 +1,9 @@
 pub use Rattle.power_rules.specs.World
 pub mod Moments
 pub mod Cost
+pub mod Noted
 pub mod Played
 pub mod AnyRun
 pub mod AllKeys
+pub mod Ending
+pub mod Started

@@ -14,8 +14,8 @@ mod world_play;
 mod world_run;
 
 pub use graph_machine::Steps;
-pub use graph_run::{GraphRun, play, play_behind};
-pub use plays::{Plays, put_run};
+pub use graph_run::{GraphEnd, ReadyGraph, play, play_ordered, play_silently};
+pub use plays::{Plays, play_on, put_run};
 pub use world_run::play_world;
 
 /// Why a run wasn't written whole.

@@ -1,6 +1,6 @@
 //! A world that is played step by step.
 
-ghost use Rattle.std.specs.Prelude.{◌≡◌, ◌≤◌, ◌<◌, ◌+◌, ◌-◌, ◌^◌, length};
+ghost use Rattle.std.specs.Prelude.{◌≡◌, ◌≤◌, ◌<◌, ◌+◌, ◌-◌, ◌^◌, [], length};
 ghost use Rattle.circuit.specs.Circuit.{view, start};
 ghost use Rattle.power_rules.specs.World.{world_circuit};
 ghost use Rattle.world_engine.specs.Running.{state_in};
@@ -9,7 +9,8 @@ ghost use Rattle.player.specs.Played.{StepTo, TakenStep};
 
 use crate::plays::Plays;
 use circuit::Step;
-use report::{Cause, Counts};
+use report::{Counts, LineBuf};
+use rp_io::{Sink, WriteFault, put_all};
 use view_text::LastView;
 use world_engine::World;
 
@@ -42,6 +43,10 @@ impl Plays<()> for WorldPlay {
 
     ghost ahead = { λ w. 2 ^ 62 - w.world.time };
 
+    ghost note = { λ w fires. [] };
+
+    ghost noted = { λ w. [] };
+
     fn time(&self) -> u64 {
         self.world.time()
     }
@@ -50,6 +55,10 @@ impl Plays<()> for WorldPlay {
         take_step(&mut self.world, step);
         self.world.view(&mut self.values);
         shown.set_all(&self.values);
+    }
+
+    fn put_noted<O: Sink>(&self, _line: &mut LineBuf, out: &mut O) -> Result<(), WriteFault> {
+        put_all(out, &[])
     }
 
     fn counts(&self) -> Option<Counts> {

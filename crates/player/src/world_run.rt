@@ -1,12 +1,13 @@
 //! Plays the blocks of a build.
 
-ghost use Rattle.std.specs.Prelude.{◌≡◌, ◌≤◌, OnOk, OnErr, IsErrOf};
-ghost use Rattle.rp_io.specs.Causes.{Rose, HasCause};
+ghost use Rattle.std.specs.Prelude.{◌≡◌, ◌≤◌, OnOk, OnErr};
+ghost use Rattle.rp_io.specs.Causes.{HasCause};
 ghost use Rattle.circuit.specs.Circuit.{view, start};
 ghost use Rattle.power_rules.specs.World.{world_circuit};
 ghost use Rattle.world_engine.specs.Running.{state_in};
 ghost use Rattle.script.specs.Clickable.{takes_click, is_wire_at};
 ghost use Rattle.script.specs.Fit.{IsFit};
+ghost use Rattle.player.specs.Ending.{EndsWriting};
 ghost use Rattle.player.specs.Played.{header_of, WroteRun, WroteRunPrefix};
 
 use crate::PlayRefusal;
@@ -53,11 +54,8 @@ pub fn play_world<O: Sink>(
     out: &mut O,
 ) -> Result<(), PlayRefusal>
     requires { IsFit (takes_click build.now) (is_wire_at build.now) script.now }
-    ensures done { OnOk result (WroteRun build.now script.now (O.written out.old) (O.written out.new)) }
-    ensures front { IsErrOf result PlayRefusal.WriteFault → WroteRunPrefix build.now script.now (O.written out.old) (O.written out.new) }
-    ensures fault { IsErrOf result PlayRefusal.WriteFault → Rose (O.faults out.old) (O.faults out.new) }
-    ensures nothing { IsErrOf result PlayRefusal.NoMemory → O.written out.new ≡ O.written out.old }
-    ensures later { O.faults out.old ≤ O.faults out.new }
+    ensures { EndsWriting (λ done. WroteRun build.now script.now (O.written out.old) (O.written out.new))
+        (WroteRunPrefix build.now script.now (O.written out.old) (O.written out.new)) (out.new ≡ out.old) (O.faults out.old) (O.faults out.new) result }
 {
     let places = outputs(alloc, build, script.marks())?;
     let mut header = Vec::new(alloc);

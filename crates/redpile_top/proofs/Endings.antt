@@ -9,17 +9,18 @@ use Rattle.script.specs.declared.ScriptRefusal.{ScriptRefusal}
 use Rattle.script.specs.declared.ScriptRefusal.TheVariants.{Line, NoMemory as NoMemoryOfScript}
 use Rattle.script.specs.Acts.{Meaning}
 use Rattle.report.specs.declared.Fault.{Fault}
-use Rattle.report.specs.declared.Fault.TheVariants.{Usage as UsageFault, Read, Write, Build as BuildFault, BuildTooLong, Script as ScriptFault, ScriptTooLong, Memory, Graph}
+use Rattle.report.specs.declared.Fault.TheVariants.{Usage as UsageFault, Read, Write, Build as BuildFault, BuildTooLong, Script as ScriptFault, ScriptTooLong, Memory, Order, OrderTooLong, Graph, GraphTooLong}
 use Rattle.report.specs.declared.GraphRefusal.{GraphRefusal}
-use Rattle.report.specs.declared.GraphRefusal.TheVariants.{NoMemory as NoMemoryOfGraph}
+use Rattle.report.specs.declared.GraphRefusal.TheVariants.{Json, Whole, Node as NodeRefusal, Link as LinkRefusal, NoMemory as NoMemoryOfGraph}
 use Rattle.rp_io.specs.Causes.{Rose, HasCause, Wrote, WrotePrefix}
 use Rattle.redpile_top.specs.declared.form.Form.{Form}
 use Rattle.redpile_top.specs.declared.form.Form.TheVariants.{OnBuild, Bench}
 use Rattle.redpile_top.specs.declared.status.Status.{Status}
-use Rattle.redpile_top.specs.declared.status.Status.TheVariants.{Done, Usage, ReadFault, WriteFault, BadBuild, BadBlock, BadScript, NoMemory}
+use Rattle.redpile_top.specs.declared.status.Status.TheVariants.{Done, Usage, ReadFault, WriteFault, BadBuild, BadBlock, BadScript, BadOrder, NoMemory, BadGraph}
 use Rattle.redpile_top.specs.Forms.{word}
-use Rattle.redpile_top.specs.Written.{WroteSummaryPrefix}
-use Rattle.redpile_top.specs.Clauses.{Told, Ran, CauseUnread, IsBuild, is_block, IsBadBuild, IsBadBlock, IsScript, IsBadScript, IsBadScriptFor, BuildCause, ScriptCause, Exactly, BuildClause, BlockClause, ScriptClause, DoneClause, FrontClause, CompleteClause, CauseOf, Did, BeganCommand, OnWriteFault, ButForWrites, status_of, status_of_cause, status_of_script, status_of_graph}
+use Rattle.redpile_top.specs.Files.{Told, IsBuild, is_block, IsBadBuild, IsBadBlock, Tests, tests_of, IsScript, IsBadScript}
+use Rattle.redpile_top.specs.Ends.{Ran, UnreadFaults, FaultsOf, IsBuildOf, BuildCause, ScriptCause, BeganForm, OnWriteFault, ButForWrites}
+use Rattle.redpile_top.specs.Clauses.{IsBadScriptFor, Exactly, BuildClause, BlockClause, ScriptClause, DoneClause, FrontClause, CompleteClause, status_of, status_of_cause, status_of_script, status_of_graph}
 
 -- ---- what excludes what
 
@@ -55,17 +56,17 @@ no_block bytes r other first bad =
     let clash : false ≡ true = sym other ∙ ap is_block same in
     cc
 
-not_bad_script : (bytes : List ℕ) (build : Plan) (script : Meaning) → IsScript build script bytes → IsBadScript build bytes → ⊥
-not_bad_script bytes build script good bad = elim bad [
+not_bad_script : (bytes : List ℕ) (tests : Tests) (script : Meaning) → IsScript tests script bytes → IsBadScript tests bytes → ⊥
+not_bad_script bytes tests script good bad = elim bad [
   | inl long ↦ absurd (let within : length bytes ≤ 1048576 = good.within in omega arith)
   | inr line ↦ (let clash : ◌≡◌ {A = Result Meaning ScriptRefusal} (Ok script) (Err (Line line.line line.kind)) = sym good.is ∙ line.is in absurd (cc))
 ]
 
 -- for an accepted build and script no build makes the script bad
-not_bad_script_for : (build_bytes bytes : List ℕ) (build : Plan) (script : Meaning) → IsBuild build build_bytes → IsScript build script bytes → IsBadScriptFor build_bytes bytes → ⊥
+not_bad_script_for : (build_bytes bytes : List ℕ) (build : Plan) (script : Meaning) → IsBuild build build_bytes → IsScript (tests_of build) script bytes → IsBadScriptFor build_bytes bytes → ⊥
 not_bad_script_for build_bytes bytes build script is_build is_script bad =
     let same = same_build build_bytes bad.0 build (bad.1).0.is is_build.is in
-    not_bad_script bytes build script is_script (subst (λ (b : Plan). IsBadScript b bytes) same (bad.1).1)
+    not_bad_script bytes (tests_of build) script is_script (subst (λ (b : Plan). IsBadScript (tests_of b) bytes) same (bad.1).1)
 
 -- a build that is refused has no script
 refused_script : (build_bytes bytes : List ℕ) (r : Refusal) → IsFirstRefusal build_bytes r → IsBadScriptFor build_bytes bytes → ⊥
@@ -116,143 +117,173 @@ module _ (b : Option (List ℕ)) where
   complete_refused (Some r) cause build bytes is good = absurd (not_both bytes build r good.is (cause bytes is).1)
 
 module _ (b s : Option (List ℕ)) where
-  build_by_script : (refusal : ScriptRefusal) → ScriptCause b s refusal → (bytes : List ℕ) → b ≡ Some bytes → Exactly (IsBadBuild bytes) BadBuild (status_of_script refusal)
-  build_by_script (Line line kind) cause bytes is = never (IsBadBuild bytes) BadBuild BadScript (λ e. cc) (not_bad_build bytes cause.0 ((cause.1).0 bytes is))
+  build_by_script : (refusal : ScriptRefusal) → ScriptCause (IsBuildOf b) tests_of s refusal → (bytes : List ℕ) → b ≡ Some bytes → Exactly (IsBadBuild bytes) BadBuild (status_of_script refusal)
+  build_by_script (Line line kind) cause bytes is = never (IsBadBuild bytes) BadBuild BadScript (λ e. cc) (not_bad_build bytes cause.target (cause.good bytes is))
   build_by_script NoMemoryOfScript cause bytes is = by_memory (IsBadBuild bytes) BadBuild (λ e. cc)
 
-  block_by_script : (refusal : ScriptRefusal) → ScriptCause b s refusal → (bytes : List ℕ) → b ≡ Some bytes → Exactly (IsBadBlock bytes) BadBlock (status_of_script refusal)
-  block_by_script (Line line kind) cause bytes is = never (IsBadBlock bytes) BadBlock BadScript (λ e. cc) (not_bad_block bytes cause.0 ((cause.1).0 bytes is).is)
+  block_by_script : (refusal : ScriptRefusal) → ScriptCause (IsBuildOf b) tests_of s refusal → (bytes : List ℕ) → b ≡ Some bytes → Exactly (IsBadBlock bytes) BadBlock (status_of_script refusal)
+  block_by_script (Line line kind) cause bytes is = never (IsBadBlock bytes) BadBlock BadScript (λ e. cc) (not_bad_block bytes cause.target (cause.good bytes is).is)
   block_by_script NoMemoryOfScript cause bytes is = by_memory (IsBadBlock bytes) BadBlock (λ e. cc)
 
-  line_of : (line : ℕ) (kind : ScriptKind) → ScriptCause b s (Line line kind) → (build_bytes bytes : List ℕ) → b ≡ Some build_bytes → s ≡ Some bytes → IsBadScriptFor build_bytes bytes
+  line_of : (line : ℕ) (kind : ScriptKind) → ScriptCause (IsBuildOf b) tests_of s (Line line kind) → (build_bytes bytes : List ℕ) → b ≡ Some build_bytes → s ≡ Some bytes → IsBadScriptFor build_bytes bytes
   line_of line kind cause build_bytes bytes is_b is_s =
-      (cause.0, ((cause.1).0 build_bytes is_b, inr (record { line = line; kind = kind; is = ((cause.1).1 bytes is_s).1 })))
+      (cause.target, (cause.good build_bytes is_b, inr (record { line = line; kind = kind; is = (cause.holds bytes is_s).1 })))
 
-  script_by : (refusal : ScriptRefusal) → ScriptCause b s refusal → (build_bytes bytes : List ℕ) → b ≡ Some build_bytes → s ≡ Some bytes → Exactly (IsBadScriptFor build_bytes bytes) BadScript (status_of_script refusal)
+  script_by : (refusal : ScriptRefusal) → ScriptCause (IsBuildOf b) tests_of s refusal → (build_bytes bytes : List ℕ) → b ≡ Some build_bytes → s ≡ Some bytes → Exactly (IsBadScriptFor build_bytes bytes) BadScript (status_of_script refusal)
   script_by (Line line kind) cause build_bytes bytes is_b is_s = here (IsBadScriptFor build_bytes bytes) BadScript (line_of line kind cause build_bytes bytes is_b is_s)
   script_by NoMemoryOfScript cause build_bytes bytes is_b is_s = by_memory (IsBadScriptFor build_bytes bytes) BadScript (λ e. cc)
 
-  complete_by : (refusal : ScriptRefusal) → ScriptCause b s refusal → (build : Plan) (script : Meaning) (build_bytes bytes : List ℕ) → b ≡ Some build_bytes → s ≡ Some bytes → IsBuild build build_bytes → IsScript build script bytes →
+  complete_by : (refusal : ScriptRefusal) → ScriptCause (IsBuildOf b) tests_of s refusal → (build : Plan) (script : Meaning) (build_bytes bytes : List ℕ) → b ≡ Some build_bytes → s ≡ Some bytes → IsBuild build build_bytes → IsScript (tests_of build) script bytes →
       (status_of_script refusal ≡ Done) ⊎ ((status_of_script refusal ≡ ReadFault) ⊎ ((status_of_script refusal ≡ WriteFault) ⊎ (status_of_script refusal ≡ NoMemory)))
   complete_by (Line line kind) cause build script build_bytes bytes is_b is_s good fit = absurd (not_bad_script_for build_bytes bytes build script good fit (line_of line kind cause build_bytes bytes is_b is_s))
   complete_by NoMemoryOfScript cause build script build_bytes bytes is_b is_s good fit = inr (inr (inr refl))
 
 -- ---- the clauses, by the ending
 
-module _ (told : Told) (words : List (List ℕ)) (reading writing : Type 0) (before now : Option (List ℕ)) where
-  pub build_done : (form : Option Form) → Ran form told words reading writing before now (Ok tt) → BuildClause form told words Done
+module _ (told : Told) (words : List (List ℕ)) (reading writing untouched : Type 0) (before now : Option (List ℕ)) where
+  pub build_done : (form : Option Form) → Ran form told words reading writing untouched before now (Ok tt) → BuildClause form told words Done
   build_done None ran = λ e. cc
   build_done (Some (Bench units)) ran = λ e. cc
-  build_done (Some (OnBuild command)) ran = λ bytes is. never (IsBadBuild bytes) BadBuild Done (λ e. cc) (not_bad_build bytes ran.done.build (ran.done.accepted.build_is bytes is))
+  build_done (Some (OnBuild command)) ran = λ bytes is. never (IsBadBuild bytes) BadBuild Done (λ e. cc) (not_bad_build bytes ran.done.target (ran.done.accepted.good bytes is))
 
-  pub block_done : (form : Option Form) → Ran form told words reading writing before now (Ok tt) → BlockClause form told words Done
+  pub block_done : (form : Option Form) → Ran form told words reading writing untouched before now (Ok tt) → BlockClause form told words Done
   block_done None ran = λ e. cc
   block_done (Some (Bench units)) ran = λ e. cc
-  block_done (Some (OnBuild command)) ran = λ bytes is. never (IsBadBlock bytes) BadBlock Done (λ e. cc) (not_bad_block bytes ran.done.build (ran.done.accepted.build_is bytes is).is)
+  block_done (Some (OnBuild command)) ran = λ bytes is. never (IsBadBlock bytes) BadBlock Done (λ e. cc) (not_bad_block bytes ran.done.target (ran.done.accepted.good bytes is).is)
 
-  pub script_done : (form : Option Form) → Ran form told words reading writing before now (Ok tt) → ScriptClause form told words Done
+  pub script_done : (form : Option Form) → Ran form told words reading writing untouched before now (Ok tt) → ScriptClause form told words Done
   script_done None ran = λ e. cc
   script_done (Some (Bench units)) ran = λ e. cc
   script_done (Some (OnBuild command)) ran = λ build_bytes is_b bytes is_s. never (IsBadScriptFor build_bytes bytes) BadScript Done (λ e. cc)
-      (not_bad_script_for build_bytes bytes ran.done.build ran.done.script (ran.done.accepted.build_is build_bytes is_b) (ran.done.accepted.script_is bytes is_s))
+      (not_bad_script_for build_bytes bytes ran.done.target ran.done.script (ran.done.accepted.good build_bytes is_b) (ran.done.accepted.script_is bytes is_s))
 
   -- words without a form are Usage
-  usage_alone : (fault : Fault) (answer : Status) → (Usage ≡ answer → ⊥) → ◌≡◌ {A = Result (Unit {0}) Fault} (Err fault) (Err UsageFault) → status_of fault ≡ answer → ⊥
-  usage_alone fault answer h e f =
-      let same : fault ≡ UsageFault = cc in
-      h (subst (λ (x : Fault). status_of x ≡ answer) same f)
+  usage_alone : (fault : Fault) (answer : Status) → (Usage ≡ answer → ⊥) → fault ≡ UsageFault → status_of fault ≡ answer → ⊥
+  usage_alone fault answer h same f = h (subst (λ (x : Fault). status_of x ≡ answer) same f)
 
   -- where no file is read, a write's fault or want of memory is all that comes
-  unread_alone : (fault : Fault) (answer : Status) → (WriteFault ≡ answer → ⊥) → (NoMemory ≡ answer → ⊥) → CauseUnread writing fault → status_of fault ≡ answer → ⊥
+  unread_alone : (fault : Fault) (answer : Status) → (WriteFault ≡ answer → ⊥) → (NoMemory ≡ answer → ⊥) → UnreadFaults writing fault → status_of fault ≡ answer → ⊥
   unread_alone Write answer a b cause e = a e
   unread_alone Memory answer a b cause e = b e
   unread_alone _ answer a b cause e = absurd cause
 
-  unread_complete : (fault : Fault) → CauseUnread writing fault → (status_of fault ≡ Done) ⊎ ((status_of fault ≡ WriteFault) ⊎ (status_of fault ≡ NoMemory))
+  unread_complete : (fault : Fault) → UnreadFaults writing fault → (status_of fault ≡ Done) ⊎ ((status_of fault ≡ WriteFault) ⊎ (status_of fault ≡ NoMemory))
   unread_complete Write cause = inr (inl refl)
   unread_complete Memory cause = inr (inr refl)
   unread_complete _ cause = absurd cause
 
-  pub build_failed : (fault : Fault) (form : Option Form) → Ran form told words reading writing before now (Err fault) → BuildClause form told words (status_of fault)
-  build_failed fault None ran = usage_alone fault BadBuild (λ e. cc) ran.0
-  build_failed fault (Some (Bench units)) ran = unread_alone fault BadBuild (λ e. cc) (λ e. cc) ran.cause
-  build_failed UsageFault (Some (OnBuild command)) ran = λ bytes is. absurd ran.cause
+  abbrev RanTo : Option Form → Fault → Type 0
+  RanTo form fault = Ran form told words reading writing untouched before now (Err fault)
+
+  pub build_failed : (fault : Fault) (form : Option Form) → RanTo form fault → BuildClause form told words (status_of fault)
+  build_failed fault None ran = usage_alone fault BadBuild (λ e. cc) ran.caused
+  build_failed fault (Some (Bench units)) ran = unread_alone fault BadBuild (λ e. cc) (λ e. cc) ran.caused
   build_failed Read (Some (OnBuild command)) ran = λ bytes is. by_read (IsBadBuild bytes) BadBuild (λ e. cc)
-  build_failed Write (Some (OnBuild command)) ran = λ bytes is. never (IsBadBuild bytes) BadBuild WriteFault (λ e. cc) (not_bad_build bytes ran.front.build (ran.front.accepted.build_is bytes is))
-  build_failed (BuildFault refusal) (Some (OnBuild command)) ran = build_by (told (word words 1)) (plain_refusal refusal) ran.cause
-  build_failed BuildTooLong (Some (OnBuild command)) ran = λ bytes is. here (IsBadBuild bytes) BadBuild (inl (ran.cause bytes is))
-  build_failed (ScriptFault refusal) (Some (OnBuild command)) ran = build_by_script (told (word words 1)) (told (word words 2)) refusal ran.cause
-  build_failed ScriptTooLong (Some (OnBuild command)) ran = λ bytes is. never (IsBadBuild bytes) BadBuild BadScript (λ e. cc) (not_bad_build bytes ran.cause.0 ((ran.cause.1).0 bytes is))
+  build_failed Write (Some (OnBuild command)) ran = λ bytes is. never (IsBadBuild bytes) BadBuild WriteFault (λ e. cc) (not_bad_build bytes ran.front.target (ran.front.accepted.good bytes is))
+  build_failed (BuildFault refusal) (Some (OnBuild command)) ran = build_by (told (word words 1)) (plain_refusal refusal) ran.caused
+  build_failed BuildTooLong (Some (OnBuild command)) ran = λ bytes is. here (IsBadBuild bytes) BadBuild (inl (ran.caused bytes is))
+  build_failed (ScriptFault refusal) (Some (OnBuild command)) ran = build_by_script (told (word words 1)) (told (word words 2)) refusal ran.caused
+  build_failed ScriptTooLong (Some (OnBuild command)) ran = λ bytes is. never (IsBadBuild bytes) BadBuild BadScript (λ e. cc) (not_bad_build bytes ran.caused.target (ran.caused.good bytes is))
   build_failed Memory (Some (OnBuild command)) ran = λ bytes is. by_memory (IsBadBuild bytes) BadBuild (λ e. cc)
-  build_failed _ (Some (OnBuild command)) ran = λ bytes is. absurd ran.cause
+  build_failed _ (Some (OnBuild command)) ran = λ bytes is. absurd ran.caused
 
-  pub block_failed : (fault : Fault) (form : Option Form) → Ran form told words reading writing before now (Err fault) → BlockClause form told words (status_of fault)
-  block_failed fault None ran = usage_alone fault BadBlock (λ e. cc) ran.0
-  block_failed fault (Some (Bench units)) ran = unread_alone fault BadBlock (λ e. cc) (λ e. cc) ran.cause
-  block_failed UsageFault (Some (OnBuild command)) ran = λ bytes is. absurd ran.cause
+  pub block_failed : (fault : Fault) (form : Option Form) → RanTo form fault → BlockClause form told words (status_of fault)
+  block_failed fault None ran = usage_alone fault BadBlock (λ e. cc) ran.caused
+  block_failed fault (Some (Bench units)) ran = unread_alone fault BadBlock (λ e. cc) (λ e. cc) ran.caused
   block_failed Read (Some (OnBuild command)) ran = λ bytes is. by_read (IsBadBlock bytes) BadBlock (λ e. cc)
-  block_failed Write (Some (OnBuild command)) ran = λ bytes is. never (IsBadBlock bytes) BadBlock WriteFault (λ e. cc) (not_bad_block bytes ran.front.build (ran.front.accepted.build_is bytes is).is)
-  block_failed (BuildFault refusal) (Some (OnBuild command)) ran = block_by (told (word words 1)) (plain_refusal refusal) ran.cause
-  block_failed BuildTooLong (Some (OnBuild command)) ran = λ bytes is. never (IsBadBlock bytes) BadBlock BadBuild (λ e. cc) (λ bad. let within = bad.within in let long = ran.cause bytes is in omega arith)
-  block_failed (ScriptFault refusal) (Some (OnBuild command)) ran = block_by_script (told (word words 1)) (told (word words 2)) refusal ran.cause
-  block_failed ScriptTooLong (Some (OnBuild command)) ran = λ bytes is. never (IsBadBlock bytes) BadBlock BadScript (λ e. cc) (not_bad_block bytes ran.cause.0 ((ran.cause.1).0 bytes is).is)
+  block_failed Write (Some (OnBuild command)) ran = λ bytes is. never (IsBadBlock bytes) BadBlock WriteFault (λ e. cc) (not_bad_block bytes ran.front.target (ran.front.accepted.good bytes is).is)
+  block_failed (BuildFault refusal) (Some (OnBuild command)) ran = block_by (told (word words 1)) (plain_refusal refusal) ran.caused
+  block_failed BuildTooLong (Some (OnBuild command)) ran = λ bytes is. never (IsBadBlock bytes) BadBlock BadBuild (λ e. cc) (λ bad. let within = bad.within in let long = ran.caused bytes is in omega arith)
+  block_failed (ScriptFault refusal) (Some (OnBuild command)) ran = block_by_script (told (word words 1)) (told (word words 2)) refusal ran.caused
+  block_failed ScriptTooLong (Some (OnBuild command)) ran = λ bytes is. never (IsBadBlock bytes) BadBlock BadScript (λ e. cc) (not_bad_block bytes ran.caused.target (ran.caused.good bytes is).is)
   block_failed Memory (Some (OnBuild command)) ran = λ bytes is. by_memory (IsBadBlock bytes) BadBlock (λ e. cc)
-  block_failed _ (Some (OnBuild command)) ran = λ bytes is. absurd ran.cause
+  block_failed _ (Some (OnBuild command)) ran = λ bytes is. absurd ran.caused
 
-  pub script_failed : (fault : Fault) (form : Option Form) → Ran form told words reading writing before now (Err fault) → ScriptClause form told words (status_of fault)
-  script_failed fault None ran = usage_alone fault BadScript (λ e. cc) ran.0
-  script_failed fault (Some (Bench units)) ran = unread_alone fault BadScript (λ e. cc) (λ e. cc) ran.cause
-  script_failed UsageFault (Some (OnBuild command)) ran = λ build_bytes is_b bytes is_s. absurd ran.cause
+  pub script_failed : (fault : Fault) (form : Option Form) → RanTo form fault → ScriptClause form told words (status_of fault)
+  script_failed fault None ran = usage_alone fault BadScript (λ e. cc) ran.caused
+  script_failed fault (Some (Bench units)) ran = unread_alone fault BadScript (λ e. cc) (λ e. cc) ran.caused
   script_failed Read (Some (OnBuild command)) ran = λ build_bytes is_b bytes is_s. by_read (IsBadScriptFor build_bytes bytes) BadScript (λ e. cc)
   script_failed Write (Some (OnBuild command)) ran = λ build_bytes is_b bytes is_s. never (IsBadScriptFor build_bytes bytes) BadScript WriteFault (λ e. cc)
-      (not_bad_script_for build_bytes bytes ran.front.build ran.front.script (ran.front.accepted.build_is build_bytes is_b) (ran.front.accepted.script_is bytes is_s))
-  script_failed (BuildFault refusal) (Some (OnBuild command)) ran = λ build_bytes is_b bytes is_s. script_refused (told (word words 1)) (plain_refusal refusal) ran.cause build_bytes bytes is_b
+      (not_bad_script_for build_bytes bytes ran.front.target ran.front.script (ran.front.accepted.good build_bytes is_b) (ran.front.accepted.script_is bytes is_s))
+  script_failed (BuildFault refusal) (Some (OnBuild command)) ran = λ build_bytes is_b bytes is_s. script_refused (told (word words 1)) (plain_refusal refusal) ran.caused build_bytes bytes is_b
   script_failed BuildTooLong (Some (OnBuild command)) ran = λ build_bytes is_b bytes is_s. never (IsBadScriptFor build_bytes bytes) BadScript BadBuild (λ e. cc)
-      (λ bad. let within = (bad.1).0.within in let long = ran.cause build_bytes is_b in omega arith)
-  script_failed (ScriptFault refusal) (Some (OnBuild command)) ran = λ build_bytes is_b bytes is_s. script_by (told (word words 1)) (told (word words 2)) refusal ran.cause build_bytes bytes is_b is_s
-  script_failed ScriptTooLong (Some (OnBuild command)) ran = λ build_bytes is_b bytes is_s. here (IsBadScriptFor build_bytes bytes) BadScript (ran.cause.0, ((ran.cause.1).0 build_bytes is_b, inl ((ran.cause.1).1 bytes is_s)))
+      (λ bad. let within = (bad.1).0.within in let long = ran.caused build_bytes is_b in omega arith)
+  script_failed (ScriptFault refusal) (Some (OnBuild command)) ran = λ build_bytes is_b bytes is_s. script_by (told (word words 1)) (told (word words 2)) refusal ran.caused build_bytes bytes is_b is_s
+  script_failed ScriptTooLong (Some (OnBuild command)) ran = λ build_bytes is_b bytes is_s. here (IsBadScriptFor build_bytes bytes) BadScript (ran.caused.target, (ran.caused.good build_bytes is_b, inl (ran.caused.holds bytes is_s)))
   script_failed Memory (Some (OnBuild command)) ran = λ build_bytes is_b bytes is_s. by_memory (IsBadScriptFor build_bytes bytes) BadScript (λ e. cc)
-  script_failed _ (Some (OnBuild command)) ran = λ build_bytes is_b bytes is_s. absurd ran.cause
+  script_failed _ (Some (OnBuild command)) ran = λ build_bytes is_b bytes is_s. absurd ran.caused
 
-  pub complete_failed : (fault : Fault) (form : Option Form) → Ran form told words reading writing before now (Err fault) → CompleteClause form told words (status_of fault)
+  pub complete_failed : (fault : Fault) (form : Option Form) → RanTo form fault → CompleteClause form told words (status_of fault)
   complete_failed fault None ran = tt
-  complete_failed fault (Some (Bench units)) ran = unread_complete fault ran.cause
-  complete_failed UsageFault (Some (OnBuild command)) ran = λ build script build_bytes bytes is_b is_s good fit. absurd ran.cause
+  complete_failed fault (Some (Bench units)) ran = unread_complete fault ran.caused
   complete_failed Read (Some (OnBuild command)) ran = λ build script build_bytes bytes is_b is_s good fit. inr (inl refl)
   complete_failed Write (Some (OnBuild command)) ran = λ build script build_bytes bytes is_b is_s good fit. inr (inr (inl refl))
-  complete_failed (BuildFault refusal) (Some (OnBuild command)) ran = λ build script build_bytes bytes is_b is_s good fit. complete_refused (told (word words 1)) (plain_refusal refusal) ran.cause build build_bytes is_b good
-  complete_failed BuildTooLong (Some (OnBuild command)) ran = λ build script build_bytes bytes is_b is_s good fit. absurd (let within = good.within in let long = ran.cause build_bytes is_b in omega arith)
+  complete_failed (BuildFault refusal) (Some (OnBuild command)) ran = λ build script build_bytes bytes is_b is_s good fit. complete_refused (told (word words 1)) (plain_refusal refusal) ran.caused build build_bytes is_b good
+  complete_failed BuildTooLong (Some (OnBuild command)) ran = λ build script build_bytes bytes is_b is_s good fit. absurd (let within = good.within in let long = ran.caused build_bytes is_b in omega arith)
   complete_failed (ScriptFault refusal) (Some (OnBuild command)) ran = λ build script build_bytes bytes is_b is_s good fit.
-      complete_by (told (word words 1)) (told (word words 2)) refusal ran.cause build script build_bytes bytes is_b is_s good fit
-  complete_failed ScriptTooLong (Some (OnBuild command)) ran = λ build script build_bytes bytes is_b is_s good fit. absurd (let within = fit.within in let long = (ran.cause.1).1 bytes is_s in omega arith)
+      complete_by (told (word words 1)) (told (word words 2)) refusal ran.caused build script build_bytes bytes is_b is_s good fit
+  complete_failed ScriptTooLong (Some (OnBuild command)) ran = λ build script build_bytes bytes is_b is_s good fit. absurd (let within = fit.within in let long = ran.caused.holds bytes is_s in omega arith)
   complete_failed Memory (Some (OnBuild command)) ran = λ build script build_bytes bytes is_b is_s good fit. inr (inr (inr refl))
-  complete_failed _ (Some (OnBuild command)) ran = λ build script build_bytes bytes is_b is_s good fit. absurd ran.cause
+  complete_failed _ (Some (OnBuild command)) ran = λ build script build_bytes bytes is_b is_s good fit. absurd ran.caused
 
-  pub caused : (fault : Fault) (form : Option Form) → Ran form told words reading writing before now (Err fault) → CauseOf form told words reading writing fault
-  caused fault None ran = let same : ◌≡◌ {A = Result (Unit {0}) Fault} (Err fault) (Err UsageFault) = ran.0 in cc
-  caused fault (Some (OnBuild command)) ran = ran.cause
-  caused fault (Some (Bench units)) ran = ran.cause
+-- ---- statuses that no refusal of a file stands for
 
-cause_not_done : (told : Option Refusal) → status_of_cause told ≡ Done → ⊥
-cause_not_done None e = cc
-cause_not_done (Some r) e = elim (cases_Bool (is_block r)) [
-  | inl h ↦ (let clash : BadBlock ≡ Done = rw h at e in absurd (cc))
-  | inr h ↦ (let clash : BadBuild ≡ Done = rw h at e in absurd (cc))
+cause_other : (answer : Status) → (NoMemory ≡ answer → ⊥) → (BadBlock ≡ answer → ⊥) → (BadBuild ≡ answer → ⊥) → (told : Option Refusal) → status_of_cause told ≡ answer → ⊥
+cause_other answer memory block build None e = memory e
+cause_other answer memory block build (Some r) e = elim (cases_Bool (is_block r)) [
+  | inl h ↦ (let same : BadBlock ≡ answer = rw h at e in block same)
+  | inr h ↦ (let same : BadBuild ≡ answer = rw h at e in build same)
 ]
 
-script_not_done : (refusal : ScriptRefusal) → status_of_script refusal ≡ Done → ⊥
-script_not_done (Line line kind) e = cc
-script_not_done NoMemoryOfScript e = cc
+script_other : (answer : Status) → (NoMemory ≡ answer → ⊥) → (BadScript ≡ answer → ⊥) → (refusal : ScriptRefusal) → status_of_script refusal ≡ answer → ⊥
+script_other answer memory script (Line line kind) e = script e
+script_other answer memory script NoMemoryOfScript e = memory e
 
-graph_not_done : (refusal : GraphRefusal) → status_of_graph refusal ≡ Done → ⊥
-graph_not_done NoMemoryOfGraph e = cc
-graph_not_done _ e = cc
+graph_other : (answer : Status) → (NoMemory ≡ answer → ⊥) → (BadGraph ≡ answer → ⊥) → (refusal : GraphRefusal) → status_of_graph refusal ≡ answer → ⊥
+graph_other answer memory graph Json e = graph e
+graph_other answer memory graph Whole e = graph e
+graph_other answer memory graph (NodeRefusal index kind) e = graph e
+graph_other answer memory graph (LinkRefusal index kind) e = graph e
+graph_other answer memory graph NoMemoryOfGraph e = memory e
 
 pub never_done : (fault : Fault) → status_of fault ≡ Done → ⊥
-never_done (BuildFault refusal) e = cause_not_done (plain_refusal refusal) e
-never_done (ScriptFault refusal) e = script_not_done refusal e
-never_done (Graph refusal) e = graph_not_done refusal e
+never_done (BuildFault refusal) e = cause_other Done (λ s. cc) (λ s. cc) (λ s. cc) (plain_refusal refusal) e
+never_done (ScriptFault refusal) e = script_other Done (λ s. cc) (λ s. cc) refusal e
+never_done (Graph refusal) e = graph_other Done (λ s. cc) (λ s. cc) refusal e
 never_done _ e = cc
+
+-- a write's fault alone answers WriteFault
+write_alone : (fault : Fault) (P : Fault → Type 0) → P Write → status_of fault ≡ WriteFault → P fault
+write_alone Write P p e = p
+write_alone (BuildFault refusal) P p e = absurd (cause_other WriteFault (λ s. cc) (λ s. cc) (λ s. cc) (plain_refusal refusal) e)
+write_alone (ScriptFault refusal) P p e = absurd (script_other WriteFault (λ s. cc) (λ s. cc) refusal e)
+write_alone (Graph refusal) P p e = absurd (graph_other WriteFault (λ s. cc) (λ s. cc) refusal e)
+write_alone _ P p e = absurd (cc)
+
+-- where all else failed, the sink is untouched
+untouched_then : (fault : Fault) (P : Type 0) → (status_of fault ≡ WriteFault → ⊥) → ButForWrites (Err fault) P → P
+untouched_then Write P h n = absurd (h refl)
+untouched_then _ P h n = n
+
+module _ (told : Told) (words : List (List ℕ)) (reading writing : Type 0) where
+  pub order_failed : (fault : Fault) (form : Option Form) → FaultsOf form told words reading writing fault → status_of fault ≡ BadOrder → ⊥
+  order_failed fault None cause = usage_alone told words reading writing (Unit {0}) None None fault BadOrder (λ e. cc) cause
+  order_failed fault (Some (Bench units)) cause = unread_alone told words reading writing (Unit {0}) None None fault BadOrder (λ e. cc) (λ e. cc) cause
+  order_failed (BuildFault refusal) (Some (OnBuild command)) cause = cause_other BadOrder (λ s. cc) (λ s. cc) (λ s. cc) (plain_refusal refusal)
+  order_failed (ScriptFault refusal) (Some (OnBuild command)) cause = script_other BadOrder (λ s. cc) (λ s. cc) refusal
+  order_failed (Order line tick kind) (Some (OnBuild command)) cause = absurd cause
+  order_failed OrderTooLong (Some (OnBuild command)) cause = absurd cause
+  order_failed (Graph refusal) (Some (OnBuild command)) cause = absurd cause
+  order_failed _ (Some (OnBuild command)) cause = λ e. cc
+
+  pub graph_failed : (fault : Fault) (form : Option Form) → FaultsOf form told words reading writing fault → status_of fault ≡ BadGraph → ⊥
+  graph_failed fault None cause = usage_alone told words reading writing (Unit {0}) None None fault BadGraph (λ e. cc) cause
+  graph_failed fault (Some (Bench units)) cause = unread_alone told words reading writing (Unit {0}) None None fault BadGraph (λ e. cc) (λ e. cc) cause
+  graph_failed (BuildFault refusal) (Some (OnBuild command)) cause = cause_other BadGraph (λ s. cc) (λ s. cc) (λ s. cc) (plain_refusal refusal)
+  graph_failed (ScriptFault refusal) (Some (OnBuild command)) cause = script_other BadGraph (λ s. cc) (λ s. cc) refusal
+  graph_failed (Graph refusal) (Some (OnBuild command)) cause = absurd cause
+  graph_failed GraphTooLong (Some (OnBuild command)) cause = absurd cause
+  graph_failed _ (Some (OnBuild command)) cause = λ e. cc
 
 -- the line was written, or a prefix of it
 pub line_written : {T E : Type 0} (r : Result T E) (old new : ℕ) (before now : Option (List ℕ)) (line : List ℕ) → OnOk r (Wrote before now line) → OnErr r (WrotePrefix before now line) → HasCause old new r →
@@ -260,52 +291,9 @@ pub line_written : {T E : Type 0} (r : Result T E) (old new : ℕ) (before now :
 line_written (Ok x) old new before now line all front cause = inl all
 line_written (Err e) old new before now line all front cause = inr (cause.failed, front)
 
-cause_not_write : (told : Option Refusal) → status_of_cause told ≡ WriteFault → ⊥
-cause_not_write None e = cc
-cause_not_write (Some r) e = elim (cases_Bool (is_block r)) [
-  | inl h ↦ (let clash : BadBlock ≡ WriteFault = rw h at e in absurd (cc))
-  | inr h ↦ (let clash : BadBuild ≡ WriteFault = rw h at e in absurd (cc))
-]
+module _ (told : Told) (words : List (List ℕ)) (reading writing untouched : Type 0) (before now : Option (List ℕ)) where
+  pub front_failed : (fault : Fault) (form : Option Form) → Ran form told words reading writing untouched before now (Err fault) → FrontClause form told words before now (status_of fault)
+  front_failed fault form ran = λ e. write_alone fault (λ f. OnWriteFault (Err f) (BeganForm form told words before now) → BeganForm form told words before now) (λ part. part) e ran.front
 
-script_not_write : (refusal : ScriptRefusal) → status_of_script refusal ≡ WriteFault → ⊥
-script_not_write (Line line kind) e = cc
-script_not_write NoMemoryOfScript e = cc
-
-graph_not_write : (refusal : GraphRefusal) → status_of_graph refusal ≡ WriteFault → ⊥
-graph_not_write NoMemoryOfGraph e = cc
-graph_not_write _ e = cc
-
--- a write's fault alone answers WriteFault
-write_alone : (fault : Fault) (P : Fault → Type 0) → P Write → status_of fault ≡ WriteFault → P fault
-write_alone Write P p e = p
-write_alone (BuildFault refusal) P p e = absurd (cause_not_write (plain_refusal refusal) e)
-write_alone (ScriptFault refusal) P p e = absurd (script_not_write refusal e)
-write_alone (Graph refusal) P p e = absurd (graph_not_write refusal e)
-write_alone _ P p e = absurd (cc)
-
--- where all else failed, nothing was written
-untouched_then : (fault : Fault) (P : Type 0) → (status_of fault ≡ WriteFault → ⊥) → ButForWrites (Err fault) P → P
-untouched_then Write P h n = absurd (h refl)
-untouched_then _ P h n = n
-
-module _ (told : Told) (words : List (List ℕ)) (reading writing : Type 0) (before now : Option (List ℕ)) where
-  pub done_failed : (fault : Fault) (form : Option Form) → DoneClause form told words before now (status_of fault)
-  done_failed fault None = never_done fault
-  done_failed fault (Some (OnBuild command)) = λ e. absurd (never_done fault e)
-  done_failed fault (Some (Bench units)) = λ e. absurd (never_done fault e)
-
-  pub front_failed : (fault : Fault) (form : Option Form) → Ran form told words reading writing before now (Err fault) → FrontClause form told words before now (status_of fault)
-  front_failed fault None ran = usage_alone told words reading writing before now fault WriteFault (λ e. cc) ran.0
-  front_failed fault (Some (OnBuild command)) ran = λ e. began fault ran.front e
-    where
-      began : (f : Fault) → OnWriteFault (Err f) (Did (told (word words 1)) (told (word words 2)) (BeganCommand command before now)) → status_of f ≡ WriteFault → Did (told (word words 1)) (told (word words 2)) (BeganCommand command before now)
-      began f front e = write_alone f (λ x. OnWriteFault (Err x) (Did (told (word words 1)) (told (word words 2)) (BeganCommand command before now)) → Did (told (word words 1)) (told (word words 2)) (BeganCommand command before now)) (λ part. part) e front
-  front_failed fault (Some (Bench units)) ran = λ e. began fault ran.front e
-    where
-      began : (f : Fault) → OnWriteFault (Err f) (WroteSummaryPrefix units before now) → status_of f ≡ WriteFault → WroteSummaryPrefix units before now
-      began f front e = write_alone f (λ x. OnWriteFault (Err x) (WroteSummaryPrefix units before now) → WroteSummaryPrefix units before now) (λ part. part) e front
-
-  pub nothing_failed : (fault : Fault) (form : Option Form) → Ran form told words reading writing before now (Err fault) → (status_of fault ≡ WriteFault → ⊥) → now ≡ before
-  nothing_failed fault None ran h = ran.1
-  nothing_failed fault (Some (OnBuild command)) ran h = untouched_then fault (now ≡ before) h ran.nothing
-  nothing_failed fault (Some (Bench units)) ran h = untouched_then fault (now ≡ before) h ran.nothing
+  pub nothing_failed : (fault : Fault) (form : Option Form) → Ran form told words reading writing untouched before now (Err fault) → (status_of fault ≡ WriteFault → ⊥) → untouched
+  nothing_failed fault form ran h = untouched_then fault untouched h ran.nothing

@@ -6,17 +6,22 @@ use Rattle.script.specs.declared.ScriptRefusal.{ScriptRefusal}
 use Rattle.script.specs.declared.ScriptRefusal.TheVariants.{Line, NoMemory as NoMemoryOfScript}
 use Rattle.script.specs.Clickable.{takes_click, is_wire_at}
 use Rattle.script.specs.Scripts.{script_of, Refuses}
-use Rattle.redpile_top.specs.Clauses.{IsBuild, OnTold, BuildCause, ScriptCause}
+use Rattle.redpile_top.specs.Files.{IsBuild, OnTold, tests_of}
+use Rattle.redpile_top.specs.Ends.{BuildCause, ScriptCause, IsBuildOf}
 
 pub build_told : (b : Option (List ℕ)) (read : List ℕ) (told : Option Refusal) → ((bytes : List ℕ) → b ≡ Some bytes → read ≡ bytes) → ((bytes : List ℕ) → b ≡ Some bytes → length bytes ≤ 67108864) →
     RefusesBuild read told → BuildCause b told
 build_told b read None same within h = tt
 build_told b read (Some r) same within h = λ bytes is. (within bytes is, subst (λ (bs : List ℕ). IsFirstRefusal bs r) (same bytes is) h)
 
-pub script_told : (b s : Option (List ℕ)) (build : Plan) (read : List ℕ) (refusal : ScriptRefusal) → OnTold b (IsBuild build) → ((bytes : List ℕ) → s ≡ Some bytes → read ≡ bytes) →
-    ((bytes : List ℕ) → s ≡ Some bytes → length bytes ≤ 1048576) → Refuses (script_of (takes_click build) (is_wire_at build) read) refusal → ScriptCause b s refusal
+pub script_told : (b s : Option (List ℕ)) (build : Plan) (read : List ℕ) (refusal : ScriptRefusal) → IsBuildOf b build → ((bytes : List ℕ) → s ≡ Some bytes → read ≡ bytes) →
+    ((bytes : List ℕ) → s ≡ Some bytes → length bytes ≤ 1048576) → Refuses (script_of (takes_click build) (is_wire_at build) read) refusal → ScriptCause (IsBuildOf b) tests_of s refusal
 script_told b s build read (Line line kind) good same within h =
-    (build, (good, λ bytes is. (within bytes is, subst (λ (bs : List ℕ). script_of (takes_click build) (is_wire_at build) bs ≡ Err (Line line kind)) (same bytes is) h)))
+    record {
+      target = build;
+      good = good;
+      holds = λ bytes is. (within bytes is, subst (λ (bs : List ℕ). script_of (takes_click build) (is_wire_at build) bs ≡ Err (Line line kind)) (same bytes is) h);
+    }
 script_told b s build read NoMemoryOfScript good same within h = tt
 
 same_file : (name : List ℕ) (now old : List ℕ → Option (List ℕ)) (bytes : List ℕ) → now ≡ old → old name ≡ Some bytes → now name ≡ Some bytes

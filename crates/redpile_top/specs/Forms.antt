@@ -1,30 +1,39 @@
 -- What words ask for.
-use Rattle.std.specs.Prelude.{ℕ, Bool, true, false, ◌&&◌, nat_le, if◌then◌else◌, List, [], ◌∷◌, get_or, Option, Some, None, codes, option_map}
+use Rattle.std.specs.Prelude.{◌≡◌, ◌⊎◌, ℕ, ◌+◌, Bool, true, false, ◌&&◌, nat_le, if◌then◌else◌, List, [], ◌∷◌, get_or, Option, Some, None, codes, option_map}
 use Rattle.std.specs.Str.{bytes_eq}
 use Rattle.rp_text.specs.Numbers.{u32_of}
+use Rattle.redpile_top.specs.declared.form.Command.{Command}
 use Rattle.redpile_top.specs.declared.form.Command.TheVariants.{World, Compile, Run}
 use Rattle.redpile_top.specs.declared.form.Form.{Form}
 use Rattle.redpile_top.specs.declared.form.Form.TheVariants.{OnBuild, Bench}
+use Rattle.redpile_top.specs.declared.form.NodeChoice.{NodeChoice}
+use Rattle.redpile_top.specs.declared.form.NodeChoice.TheVariants.{Pruned, Kept, KeptInOrder}
 
--- a command without flags
-abbrev pub unflagged : List ℕ → Option Form
-unflagged name =
-    if bytes_eq name (codes "world") then Some (OnBuild World)
-    else if bytes_eq name (codes "compile") then Some (OnBuild Compile)
-    else if bytes_eq name (codes "run") then Some (OnBuild (Run false false))
+-- which nodes a run has, by the flags behind `--graph`
+abbrev pub choice_of : List (List ℕ) → Option NodeChoice
+choice_of [] = Some Pruned
+choice_of (keep ∷ []) = if bytes_eq keep (codes "--keep") then Some Kept else None
+choice_of (keep ∷ order ∷ []) = if bytes_eq keep (codes "--keep") && bytes_eq order (codes "--order") then Some KeptInOrder else None
+choice_of (keep ∷ order ∷ more ∷ words) = None
+
+-- a run, by its flags
+abbrev pub run_of : List (List ℕ) → Option Command
+run_of [] = Some (Run false Pruned)
+run_of (first ∷ flags) =
+    if bytes_eq first (codes "--graph") then option_map (Run true) (choice_of flags) else option_map (Run false) (choice_of (first ∷ flags))
+
+-- a command that has no flags
+abbrev pub unflagged : Command → List (List ℕ) → Option Command
+unflagged command [] = Some command
+unflagged command (flag ∷ flags) = None
+
+-- a command over a build and a script, by its name and its flags
+abbrev pub command_of : List ℕ → List (List ℕ) → Option Command
+command_of name flags =
+    if bytes_eq name (codes "world") then unflagged World flags
+    else if bytes_eq name (codes "compile") then unflagged Compile flags
+    else if bytes_eq name (codes "run") then run_of flags
     else None
-
--- one with a flag
-abbrev pub flagged : List ℕ → List ℕ → Option Form
-flagged name flag =
-    if bytes_eq name (codes "run") && bytes_eq flag (codes "--graph") then Some (OnBuild (Run true false))
-    else if bytes_eq name (codes "run") && bytes_eq flag (codes "--keep") then Some (OnBuild (Run false true))
-    else None
-
--- one with two
-abbrev pub flagged_twice : List ℕ → List ℕ → List ℕ → Option Form
-flagged_twice name first second =
-    if bytes_eq name (codes "run") && (bytes_eq first (codes "--graph") && bytes_eq second (codes "--keep")) then Some (OnBuild (Run true true)) else None
 
 -- a number of units is from 1 to 4,000
 abbrev pub is_units : ℕ → Bool
@@ -37,14 +46,32 @@ units_within (Some n) = if is_units n then Some n else None
 abbrev pub bench_of : List ℕ → List ℕ → Option Form
 bench_of name number = if bytes_eq name (codes "bench") then option_map Bench (units_within (u32_of number)) else None
 
--- The form that the words have, if they have one. BUILD and SCRIPT stand in the places 1 and 2, and may be any words.
+-- The form that the words have, if they have one. The flags stand last.
 abbrev pub form_of : List (List ℕ) → Option Form
 form_of (name ∷ number ∷ []) = bench_of name number
-form_of (name ∷ build ∷ script ∷ []) = unflagged name
-form_of (name ∷ build ∷ script ∷ flag ∷ []) = flagged name flag
-form_of (name ∷ build ∷ script ∷ first ∷ second ∷ []) = flagged_twice name first second
+form_of (name ∷ build ∷ script ∷ flags) = option_map OnBuild (command_of name flags)
 form_of words = None
 
 -- the word in a place, counted from 0
 abbrev pub word : List (List ℕ) → ℕ → List ℕ
 word words i = get_or words i []
+
+-- what a file is read as
+pub data FileKind : Type 0 where
+  BuildFile : FileKind
+  ScriptFile : FileKind
+
+-- the files that words of this form name, in order, the first of them by the word in place 1
+abbrev pub files_of : Form → List FileKind
+files_of (OnBuild command) = BuildFile ∷ ScriptFile ∷ []
+files_of (Bench units) = []
+
+-- The word in this place or in a later one names a file, and is this name.
+abbrev pub IsNamed : List FileKind → ℕ → List (List ℕ) → List ℕ → Type 0
+IsNamed [] place words name = ⊥
+IsNamed (kind ∷ kinds) place words name = (name ≡ word words place) ⊎ IsNamed kinds (place + 1) words name
+
+-- The words of this form name this file.
+abbrev pub IsFileWord : Option Form → List (List ℕ) → List ℕ → Type 0
+IsFileWord None words name = ⊥
+IsFileWord (Some form) words name = IsNamed (files_of form) 1 words name

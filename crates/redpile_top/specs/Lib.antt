@@ -4,7 +4,10 @@ pub use Rattle.graph.specs.GraphText
 pub use Rattle.player.specs.Moments
 pub use Rattle.player.specs.Played
 pub use Rattle.report.specs.BenchText
+pub use Rattle.report.specs.RunLines
 pub mod Forms
+pub mod Files
 pub mod Written
+pub mod Ends
 pub mod Clauses
 pub mod Statuses

@@ -1,19 +1,21 @@
 //! What the commands write.
 
-ghost use Rattle.std.specs.Prelude.{◌≡◌, ◌≤◌, ◌<◌, ◌++◌, IfOk, OnOk, IsErrOf};
-ghost use Rattle.rp_io.specs.Causes.{Rose, Wrote, WrotePrefix};
-ghost use Rattle.graph.specs.GraphText.{graph_text};
+ghost use Rattle.std.specs.Prelude.{◌≡◌, ◌≤◌, ◌<◌, IfOk, OnOk, OnErr};
+ghost use Rattle.rp_io.specs.Causes.{HasCause, Wrote, WrotePrefix};
+ghost use Rattle.circuit.specs.Taken.{EachActTaken};
+ghost use Rattle.graph.specs.GraphCircuit.{graph_circuit};
+ghost use Rattle.player.specs.Ending.{EndsWriting};
 ghost use Rattle.script.specs.Clickable.{takes_click, is_wire_at};
 ghost use Rattle.script.specs.Fit.{IsFit};
-ghost use Rattle.redpile_top.specs.Clauses.{DidCommand, BeganCommand};
-ghost use Rattle.redpile_top.specs.Written.{keep_of, compile_text, front_of, WroteGraph, WroteGraphPrefix, WroteCompiledRun, WroteCompiledRunPrefix, WroteSummary, WroteSummaryPrefix, HasSummary};
+ghost use Rattle.redpile_top.specs.Ends.{DidCommand, BeganCommand};
+ghost use Rattle.redpile_top.specs.Written.{keep_of, is_ordered, compile_text, front_of, WroteGraph, WroteGraphPrefix, WroteBehind, WroteBehindPrefix, WroteRunOf, WroteRunPrefixOf, WroteSummary, WroteSummaryPrefix, HasSummary};
 
-use crate::form::Command;
+use crate::form::{Command, NodeChoice};
 use build::{Build, outputs};
 use compiler::{Keep, compile_build};
 use generator::make;
 use graph::Graph;
-use player::{PlayRefusal, Steps, play_behind, play_world};
+use player::{PlayRefusal, ReadyGraph, Steps, play_silently, play_world};
 use report::{LineBuf, push_summary};
 use rp_io::{CountSink, Sink, WriteFault, put_all};
 use rp_text::{NoMemory, push_bytes};
@@ -34,27 +36,21 @@ pub fn perform<O: Sink>(
     out: &mut O,
 ) -> Result<(), PlayRefusal>
     requires { IsFit (takes_click build.now) (is_wire_at build.now) script.now }
-    ensures done { OnOk result (DidCommand command (O.written out.old) (O.written out.new) build.now script.now) }
-    ensures front { IsErrOf result PlayRefusal.WriteFault → BeganCommand command (O.written out.old) (O.written out.new) build.now script.now }
-    ensures fault { IsErrOf result PlayRefusal.WriteFault → Rose (O.faults out.old) (O.faults out.new) }
-    ensures nothing { IsErrOf result PlayRefusal.NoMemory → O.written out.new ≡ O.written out.old }
-    ensures later { O.faults out.old ≤ O.faults out.new }
+    ensures { EndsWriting (λ done. DidCommand command (O.written out.old) (O.written out.new) build.now script.now)
+        (BeganCommand command (O.written out.old) (O.written out.new) build.now script.now) (out.new ≡ out.old) (O.faults out.old) (O.faults out.new) result }
 {
     match command {
         Command::World => play_world(alloc, build, script, out),
         Command::Compile => compile(alloc, build, script, out),
-        Command::Run { graph, keep } => {
-            run_compiled::<O, Brand>(alloc, graph, keep, build, script, out, Blank::new(1))
+        Command::Run { graph, nodes } => {
+            run_compiled::<O, Brand>(alloc, graph, nodes, build, script, out, Blank::new(1))
         }
     }
 }
 
 fn put<O: Sink>(out: &mut O, bytes: &[u8]) -> Result<(), PlayRefusal>
-    ensures done { OnOk result (Wrote (O.written out.old) (O.written out.new) bytes.now) }
-    ensures front { IsErrOf result PlayRefusal.WriteFault → WrotePrefix (O.written out.old) (O.written out.new) bytes.now }
-    ensures fault { IsErrOf result PlayRefusal.WriteFault → Rose (O.faults out.old) (O.faults out.new) }
-    ensures nothing { IsErrOf result PlayRefusal.NoMemory → O.written out.new ≡ O.written out.old }
-    ensures later { O.faults out.old ≤ O.faults out.new }
+    ensures { EndsWriting (λ done. Wrote (O.written out.old) (O.written out.new) bytes.now)
+        (WrotePrefix (O.written out.old) (O.written out.new) bytes.now) (out.new ≡ out.old) (O.faults out.old) (O.faults out.new) result }
 {
     match put_all(out, bytes) {
         Ok(()) => Ok(()),
@@ -78,21 +74,30 @@ fn compile<O: Sink>(
     script: &Script,
     out: &mut O,
 ) -> Result<(), PlayRefusal>
-    ensures done { OnOk result (WroteGraph build.now script.now (O.written out.old) (O.written out.new)) }
-    ensures front { IsErrOf result PlayRefusal.WriteFault → WroteGraphPrefix build.now script.now (O.written out.old) (O.written out.new) }
-    ensures fault { IsErrOf result PlayRefusal.WriteFault → Rose (O.faults out.old) (O.faults out.new) }
-    ensures nothing { IsErrOf result PlayRefusal.NoMemory → O.written out.new ≡ O.written out.old }
-    ensures later { O.faults out.old ≤ O.faults out.new }
+    ensures { EndsWriting (λ done. WroteGraph build.now script.now (O.written out.old) (O.written out.new))
+        (WroteGraphPrefix build.now script.now (O.written out.old) (O.written out.new)) (out.new ≡ out.old) (O.faults out.old) (O.faults out.new) result }
 {
     let graph = compile_build(alloc, build, script.marks(), Keep::Prune)?;
     let text = compile_text(alloc, &graph)?;
     put(out, &text)
 }
 
-fn keep_of(keep: bool) -> Keep
-    ensures { result ≡ keep_of keep }
+fn keep_of(nodes: NodeChoice) -> Keep
+    ensures { result ≡ keep_of nodes }
 {
-    if keep { Keep::All } else { Keep::Prune }
+    match nodes {
+        NodeChoice::Pruned => Keep::Prune,
+        NodeChoice::Kept | NodeChoice::KeptInOrder => Keep::All,
+    }
+}
+
+fn is_ordered(nodes: NodeChoice) -> bool
+    ensures { result ≡ is_ordered nodes }
+{
+    match nodes {
+        NodeChoice::Pruned | NodeChoice::Kept => false,
+        NodeChoice::KeptInOrder => true,
+    }
 }
 
 // The text of the graph, where it is asked for.
@@ -110,7 +115,7 @@ fn front_of(alloc: Global, with_graph: bool, graph: &Graph) -> Result<Vec<u8>, N
 fn run_compiled<O: Sink, L: Ledger>(
     alloc: Global,
     with_graph: bool,
-    keep: bool,
+    nodes: NodeChoice,
     build: &Build,
     script: &Script,
     out: &mut O,
@@ -120,32 +125,45 @@ fn run_compiled<O: Sink, L: Ledger>(
     requires name { blank.name ≡ L.name }
     requires parts { blank.parts ≡ L.parts }
     requires some { 0 < L.parts }
-    ensures done { OnOk result (WroteCompiledRun with_graph (keep_of keep) build.now script.now (O.written out.old) (O.written out.new)) }
-    ensures front { IsErrOf result PlayRefusal.WriteFault → WroteCompiledRunPrefix with_graph (keep_of keep) build.now script.now (O.written out.old) (O.written out.new) }
-    ensures fault { IsErrOf result PlayRefusal.WriteFault → Rose (O.faults out.old) (O.faults out.new) }
-    ensures nothing { IsErrOf result PlayRefusal.NoMemory → O.written out.new ≡ O.written out.old }
-    ensures later { O.faults out.old ≤ O.faults out.new }
+    ensures { EndsWriting (λ done. WroteRunOf nodes with_graph build.now script.now (O.written out.old) (O.written out.new))
+        (WroteRunPrefixOf nodes with_graph build.now script.now (O.written out.old) (O.written out.new)) (out.new ≡ out.old) (O.faults out.old) (O.faults out.new) result }
 {
     let _ = build.cells();
-    let graph = compile_build(alloc, build, script.marks(), keep_of(keep))?;
+    let graph = compile_build(alloc, build, script.marks(), keep_of(nodes))?;
     let front = front_of(alloc, with_graph, &graph)?;
     let places = outputs(alloc, build, script.marks())?;
+    let ready = ReadyGraph::new(alloc, &graph, &places, is_ordered(nodes))?;
     let mut steps: Steps<L> = Steps::new(blank);
-    match play_behind(alloc, &front, &graph, &places, script, out, &mut steps) {
+    match put_ready(&front, ready, script, out, &mut steps) {
         Ok(_) => Ok(()),
-        Err(refusal) => Err(refusal),
+        Err(WriteFault) => Err(PlayRefusal::WriteFault),
     }
+}
+
+/// Writes some bytes, and then the run of a graph that is ready.
+fn put_ready<O: Sink, L: Ledger>(
+    front: &[u8],
+    ready: ReadyGraph<'_>,
+    script: &Script,
+    out: &mut O,
+    steps: &mut Steps<L>,
+) -> Result<(), WriteFault>
+    requires { EachActTaken (graph_circuit ready.nodes) script.now.acts }
+    ensures done { OnOk result (WroteBehind front.now ready.is_ordered ready.nodes ready.header script.now.acts (O.written out.old) (O.written out.new)) }
+    ensures front { OnErr result (WroteBehindPrefix front.now ready.is_ordered ready.nodes ready.header script.now.acts (O.written out.old) (O.written out.new)) }
+    ensures cause { HasCause (O.faults out.old) (O.faults out.new) result }
+{
+    put_all(out, front)?;
+    ready.put(script, out, steps)?;
+    Ok(())
 }
 
 /// The command `bench`: the summary of a run of the compiled graph of so many units.
 pub fn bench<O: Sink>(alloc: Global, units: u32, out: &mut O) -> Result<(), PlayRefusal>
     requires some { 1 ≤ units }
     requires few { units ≤ 4000 }
-    ensures done { OnOk result (WroteSummary units (O.written out.old) (O.written out.new)) }
-    ensures front { IsErrOf result PlayRefusal.WriteFault → WroteSummaryPrefix units (O.written out.old) (O.written out.new) }
-    ensures fault { IsErrOf result PlayRefusal.WriteFault → Rose (O.faults out.old) (O.faults out.new) }
-    ensures nothing { IsErrOf result PlayRefusal.NoMemory → O.written out.new ≡ O.written out.old }
-    ensures later { O.faults out.old ≤ O.faults out.new }
+    ensures { EndsWriting (λ done. WroteSummary units (O.written out.old) (O.written out.new))
+        (WroteSummaryPrefix units (O.written out.old) (O.written out.new)) (out.new ≡ out.old) (O.faults out.old) (O.faults out.new) result }
 {
     let line = summary::<Brand>(alloc, units, Blank::new(1))?;
     put(out, line.bytes())
@@ -164,13 +182,7 @@ fn summary<L: Ledger>(alloc: Global, units: u32, blank: Blank) -> Result<LineBuf
     let places = outputs(alloc, &build, script.marks())?;
     let mut line = LineBuf::new(alloc, SUMMARY_ROOM)?;
     let mut steps: Steps<L> = Steps::new(blank);
-    let mut count = CountSink::new();
-    match play_behind(alloc, &[], &graph, &places, &script, &mut count, &mut steps) {
-        Ok(run) => {
-            push_summary(&mut line, units, &places, &run.values, run.counts);
-            Ok(line)
-        }
-        Err(PlayRefusal::NoMemory) => Err(NoMemory),
-        Err(PlayRefusal::WriteFault) => unreachable!(),
-    }
+    let end = play_silently(alloc, &graph, &script, &mut steps)?;
+    push_summary(&mut line, units, &places, &end.values, end.counts);
+    Ok(line)
 }

@@ -1,9 +1,20 @@
 //! The forms of the words.
 
 ghost use Rattle.std.specs.Prelude.{◌≡◌, ℕ, List, map, string_bytes};
-ghost use Rattle.redpile_top.specs.Forms.{unflagged, flagged, flagged_twice, units_within, bench_of, form_of, word};
+ghost use Rattle.redpile_top.specs.Forms.{choice_of, run_of, unflagged, command_of, units_within, bench_of, form_of, word};
 
 use rp_text::read_u32;
+
+/// Which nodes the graph of a run has, and whether the order of its firings is shown.
+#[derive(Clone, Copy, Debug, PartialEq, Eq)]
+pub enum NodeChoice {
+    /// Those that something shown depends on.
+    Pruned,
+    /// All: `--keep`.
+    Kept,
+    /// All, and a line is written for each place that fires: `--keep --order`.
+    KeptInOrder,
+}
 
 /// A command over a build and a script.
 #[derive(Clone, Copy, Debug, PartialEq, Eq)]
@@ -12,11 +23,11 @@ pub enum Command {
     World,
     /// `compile BUILD SCRIPT`
     Compile,
-    /// `run BUILD SCRIPT [--graph] [--keep]`
-    Run { graph: bool, keep: bool },
+    /// `run BUILD SCRIPT [--graph] [--keep [--order]]`
+    Run { graph: bool, nodes: NodeChoice },
 }
 
-/// What the words ask for.
+/// What words ask for.
 #[derive(Clone, Copy, Debug, PartialEq, Eq)]
 pub enum Form {
     /// A command over a build and a script, whose files are named by the words in the places 1
@@ -32,60 +43,66 @@ pub fn form_of(words: &[String]) -> Option<Form>
 {
     match words {
         [name, number] => bench_of(name.as_str(), number.as_str()),
-        [name, _, _] => unflagged(name.as_str()),
-        [name, _, _, flag] => flagged(name.as_str(), flag.as_str()),
-        [name, _, _, first, second] => {
-            flagged_twice(name.as_str(), first.as_str(), second.as_str())
-        },
+        [name, _, _, flags @ ..] => {
+            let command = command_of(name.as_str(), flags)?;
+            Some(Form::OnBuild { command })
+        }
         _ => None,
     }
 }
 
-fn on_build(command: Command) -> Form
-    ensures { result ≡ Form.OnBuild command }
-{
-    Form::OnBuild { command }
-}
-
-// A command without flags.
-fn unflagged(name: &str) -> Option<Form>
-    ensures { result ≡ unflagged name.now }
+// A command over a build and a script, by its name and its flags.
+fn command_of(name: &str, flags: &[String]) -> Option<Command>
+    ensures { result ≡ command_of name.now (map string_bytes flags.now) }
 {
     match name {
-        "world" => Some(on_build(Command::World)),
-        "compile" => Some(on_build(Command::Compile)),
-        "run" => Some(run(false, false)),
+        "world" => unflagged(Command::World, flags),
+        "compile" => unflagged(Command::Compile, flags),
+        "run" => run_of(flags),
         _ => None,
     }
 }
 
-fn run(graph: bool, keep: bool) -> Form
-    ensures { result ≡ Form.OnBuild (Command.Run graph keep) }
+// A command that has no flags.
+fn unflagged(command: Command, flags: &[String]) -> Option<Command>
+    ensures { result ≡ unflagged command (map string_bytes flags.now) }
 {
-    on_build(Command::Run { graph, keep })
-}
-
-// A command with one flag.
-fn flagged(name: &str, flag: &str) -> Option<Form>
-    ensures { result ≡ flagged name.now flag.now }
-{
-    if name == "run" && flag == "--graph" {
-        Some(run(true, false))
-    } else if name == "run" && flag == "--keep" {
-        Some(run(false, true))
-    } else {
-        None
+    match flags {
+        [] => Some(command),
+        _ => None,
     }
 }
 
-// A command with two flags.
-fn flagged_twice(name: &str, first: &str, second: &str) -> Option<Form>
-    ensures { result ≡ flagged_twice name.now first.now second.now }
+// A run, by its flags.
+fn run_of(flags: &[String]) -> Option<Command>
+    ensures { result ≡ run_of (map string_bytes flags.now) }
 {
-    if name == "run" && first == "--graph" && second == "--keep" {
-        Some(run(true, true))
-    } else {
-        None
+    match flags {
+        [first, rest @ ..] if first.as_str() == "--graph" => {
+            let nodes = choice_of(rest)?;
+            Some(Command::Run { graph: true, nodes })
+        }
+        _ => {
+            let nodes = choice_of(flags)?;
+            Some(Command::Run {
+                graph: false,
+                nodes,
+            })
+        }
+    }
+}
+
+// Which nodes a run has, by the flags behind `--graph`.
+fn choice_of(flags: &[String]) -> Option<NodeChoice>
+    ensures { result ≡ choice_of (map string_bytes flags.now) }
+{
+    match flags {
+        [] => Some(NodeChoice::Pruned),
+        [keep] if keep.as_str() == "--keep" => Some(NodeChoice::Kept),
+        [keep, order] if keep.as_str() == "--keep" && order.as_str() == "--order" => {
+            Some(NodeChoice::KeptInOrder)
+        }
+        _ => None,
     }
 }
 

@@ -6,6 +6,8 @@ mod form;
 #[cfg(test)]
 mod graph_tests;
 #[cfg(test)]
+mod order_tests;
+#[cfg(test)]
 mod row_tests;
 mod status;
 #[cfg(test)]
@@ -13,6 +15,6 @@ mod tests;
 mod top;
 
 pub use compiler::{Keep, compile_build, raw_graph};
-pub use player::{PlayRefusal, play};
+pub use player::{PlayRefusal, play, play_ordered};
 pub use status::Status;
 pub use top::redpile;

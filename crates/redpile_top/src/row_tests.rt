@@ -211,7 +211,7 @@ fn back_and_lock(rt: HostRuntime) -> Result<(), Fail> {
     Ok(())
 }
 
-const TWINS: [Cell; 6] = [
+pub(crate) const TWINS: [Cell; 6] = [
     (0, 0, 0, "redstone_lamp[lit=true]"),
     (2, 0, 0, "redstone_lamp[lit=true]"),
     (0, 1, 0, "redstone_wall_torch[facing=west]"),

@@ -78,7 +78,10 @@ fn status_of_graph(refusal: GraphRefusal) -> Status
 {
     match refusal {
         GraphRefusal::NoMemory => Status::NoMemory,
-        _ => Status::BadGraph,
+        GraphRefusal::Json
+        | GraphRefusal::Whole
+        | GraphRefusal::Node { .. }
+        | GraphRefusal::Link { .. } => Status::BadGraph,
     }
 }
 

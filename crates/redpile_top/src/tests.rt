@@ -136,7 +136,7 @@ fn barrel_file(alloc: Global, stacks: u8, count: u8) -> Result<Vec<u8>, Fail> {
     ended(ended(file)?)
 }
 
-fn lever_and_lamp_file(alloc: Global) -> Result<Vec<u8>, Fail> {
+pub(crate) fn lever_and_lamp_file(alloc: Global) -> Result<Vec<u8>, Fail> {
     row_of(alloc, &[LEVER, STONE, LAMP])
 }
 
@@ -147,18 +147,18 @@ pub(crate) struct Outcome {
     pub(crate) out: Vec<u8>,
     pub(crate) err: Vec<u8>,
     read: u64,
-    written: u64,
+    pub(crate) written: u64,
     watched: u64,
 }
 
 /// The calls that fail, the size of the pieces that are taken, and the name that is watched.
 #[derive(Clone, Copy)]
 pub(crate) struct Faults<'a> {
-    read: &'a [u64],
-    out: &'a [u64],
-    err: &'a [u64],
-    chunk: usize,
-    watch: &'a str,
+    pub(crate) read: &'a [u64],
+    pub(crate) out: &'a [u64],
+    pub(crate) err: &'a [u64],
+    pub(crate) chunk: usize,
+    pub(crate) watch: &'a str,
 }
 
 pub(crate) const NONE: Faults<'static> = Faults {
@@ -573,16 +573,21 @@ fn cut_files(rt: HostRuntime) -> Result<(), Fail> {
     Ok(())
 }
 
-#[test]
-fn unknown_block(rt: HostRuntime) -> Result<(), Fail> {
-    let alloc = rt.alloc();
+/// The file of a lever, a stone and a lamp, whose palette has a block that isn't known.
+pub(crate) fn unknown_block_file(alloc: Global) -> Result<Vec<u8>, Fail> {
     let palette = [
         (LEVER, 0),
         (STONE, 1),
         (LAMP, 2),
         ("minecraft:observer[facing=up]", 3),
     ];
-    let file = box_of(alloc, 3, &palette, &[0, 1, 2])?;
+    box_of(alloc, 3, &palette, &[0, 1, 2])
+}
+
+#[test]
+fn unknown_block(rt: HostRuntime) -> Result<(), Fail> {
+    let alloc = rt.alloc();
+    let file = unknown_block_file(alloc)?;
     let line = b"redpile: block: minecraft:observer[facing=up]\n";
     assert!(rt; refuses(alloc, &file, Status::BadBlock, line)?);
     Ok(())
@@ -890,7 +895,12 @@ fn usage(rt: HostRuntime) -> Result<(), Fail> {
 
 #[test]
 fn usage_of_flags(rt: HostRuntime) -> Result<(), Fail> {
-    let words: [&[&str]; 10] = [
+    let words: [&[&str]; 15] = [
+        &["run", "a", "b", "--order"],
+        &["run", "a", "b", "--graph", "--order"],
+        &["run", "a", "b", "--order", "--keep"],
+        &["run", "a", "b", "--keep", "--order", "--order"],
+        &["run", "a", "b", "--keep", "--graph", "--order"],
         &["world", "a", "b", "c"],
         &["world", "a", "b", "--keep"],
         &["compile", "a", "b", "--graph"],

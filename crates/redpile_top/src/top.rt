@@ -7,8 +7,10 @@ ghost use Rattle.report.specs.RoomyText.{empty_text};
 ghost use Rattle.script.specs.Clickable.{takes_click, is_wire_at};
 ghost use Rattle.script.specs.Fit.{IsFit};
 ghost use Rattle.redpile_top.specs.Forms.{form_of, word};
+ghost use Rattle.redpile_top.specs.Files.{tests_of};
 ghost use Rattle.redpile_top.specs.Written.{WroteSummary, WroteSummaryPrefix};
-ghost use Rattle.redpile_top.specs.Clauses.{Accepted, Cause, Ends, EndsUnread, DidCommand, BeganCommand, Ran, IsConstant, IsConstantFault, AskedClause, BuildClause, BlockClause, ScriptClause, DoneClause, FrontClause, CompleteClause, LineClause, CauseOf};
+ghost use Rattle.redpile_top.specs.Ends.{Accepted, Did, BuildFaults, UnreadFaults, FaultsOf, IsBuildOf, DidCommand, BeganCommand, Ends, Ran};
+ghost use Rattle.redpile_top.specs.Clauses.{IsConstant, IsConstantFault, AskedClause, UnreadClause, BuildClause, BlockClause, ScriptClause, OrderClause, GraphClause, DoneClause, FrontClause, CompleteClause, LineClause};
 
 use crate::commands::{bench, perform};
 use crate::form::{Command, Form, form_of, word};
@@ -40,9 +42,9 @@ fn accepted<I: Inputs>(
     ensures files { I.file inputs.new ≡ I.file inputs.old }
     ensures asked { (name : List ℕ) → name ≢ build.now → name ≢ script.now → I.asked inputs.new name ≡ I.asked inputs.old name }
     ensures later { I.faults inputs.old ≤ I.faults inputs.new }
-    ensures ok { IfOk result (λ found. Accepted (I.file inputs.old build.now) (I.file inputs.old script.now) found.0 found.1) }
+    ensures ok { IfOk result (λ found. Accepted (IsBuildOf (I.file inputs.old build.now)) tests_of (I.file inputs.old script.now) found.0 found.1) }
     ensures script { IfOk result (λ found. IsFit (takes_click found.0) (is_wire_at found.0) found.1) }
-    ensures cause { IfErr result (Cause (I.file inputs.old build.now) (I.file inputs.old script.now) (Rose (I.faults inputs.old) (I.faults inputs.new)) ⊥) }
+    ensures cause { IfErr result (BuildFaults (I.file inputs.old build.now) (I.file inputs.old script.now) (Rose (I.faults inputs.old) (I.faults inputs.new)) ⊥) }
 {
     let bytes = match read_whole(alloc, inputs, build, BUILD_LIMIT) {
         Ok(bytes) => bytes,
@@ -75,10 +77,14 @@ fn on_build<I: Inputs, O: Sink>(
     script: &str,
     out: &mut O,
 ) -> Result<(), Fault>
+    ensures files { I.file inputs.new ≡ I.file inputs.old }
     ensures asked { (name : List ℕ) → name ≢ build.now → name ≢ script.now → I.asked inputs.new name ≡ I.asked inputs.old name }
-    ensures ends { Ends (I.file inputs.old build.now) (I.file inputs.old script.now) (Rose (I.faults inputs.old) (I.faults inputs.new))
-        (Rose (O.faults out.old) (O.faults out.new)) (O.written out.new ≡ O.written out.old)
-        (DidCommand command (O.written out.old) (O.written out.new)) (BeganCommand command (O.written out.old) (O.written out.new)) result }
+    ensures read_later { I.faults inputs.old ≤ I.faults inputs.new }
+    ensures wrote_later { O.faults out.old ≤ O.faults out.new }
+    ensures ends { Ends (BuildFaults (I.file inputs.old build.now) (I.file inputs.old script.now) (Rose (I.faults inputs.old) (I.faults inputs.new)) (Rose (O.faults out.old) (O.faults out.new)))
+        (out.new ≡ out.old)
+        (Did (IsBuildOf (I.file inputs.old build.now)) tests_of (I.file inputs.old script.now) (DidCommand command (O.written out.old) (O.written out.new)))
+        (Did (IsBuildOf (I.file inputs.old build.now)) tests_of (I.file inputs.old script.now) (BeganCommand command (O.written out.old) (O.written out.new))) result }
 {
     let (build, script) = match accepted(alloc, inputs, build, script) {
         Ok(found) => found,
@@ -95,7 +101,8 @@ fn on_build<I: Inputs, O: Sink>(
 fn on_units<O: Sink>(alloc: Global, units: u32, out: &mut O) -> Result<(), Fault>
     requires some { 1 ≤ units }
     requires few { units ≤ 4000 }
-    ensures { EndsUnread (Rose (O.faults out.old) (O.faults out.new)) (O.written out.new ≡ O.written out.old)
+    ensures wrote_later { O.faults out.old ≤ O.faults out.new }
+    ensures ends { Ends (UnreadFaults (Rose (O.faults out.old) (O.faults out.new))) (out.new ≡ out.old)
         (WroteSummary units (O.written out.old) (O.written out.new)) (WroteSummaryPrefix units (O.written out.old) (O.written out.new)) result }
 {
     match bench(alloc, units, out) {
@@ -114,9 +121,13 @@ fn run_form<I: Inputs, O: Sink>(
     out: &mut O,
 ) -> Result<(), Fault>
     requires { form_of (map string_bytes words.now) ≡ Some form }
+    ensures files { I.file inputs.new ≡ I.file inputs.old }
+    ensures unread { UnreadClause (Some form) (inputs.new ≡ inputs.old) }
     ensures asked { let names = map string_bytes words.now in AskedClause (Some form) names (I.asked inputs.old) (I.asked inputs.new) }
-    ensures ran { let names = map string_bytes words.now in Ran (Some form) (I.file inputs.old) names
-        (Rose (I.faults inputs.old) (I.faults inputs.new)) (Rose (O.faults out.old) (O.faults out.new)) (O.written out.old) (O.written out.new) result }
+    ensures read_later { I.faults inputs.old ≤ I.faults inputs.new }
+    ensures wrote_later { O.faults out.old ≤ O.faults out.new }
+    ensures ran { let names = map string_bytes words.now in Ran (Some form) (I.file inputs.old) names (Rose (I.faults inputs.old) (I.faults inputs.new)) (Rose (O.faults out.old) (O.faults out.new))
+        (out.new ≡ out.old) (O.written out.old) (O.written out.new) result }
 {
     match form {
         Form::OnBuild { command } => {
@@ -134,9 +145,13 @@ fn run<I: Inputs, O: Sink>(
     inputs: &mut I,
     out: &mut O,
 ) -> (Result<(), Fault>, Option<LineBuf>)
+    ensures files { I.file inputs.new ≡ I.file inputs.old }
+    ensures unread { let names = map string_bytes words.now in UnreadClause (form_of names) (inputs.new ≡ inputs.old) }
     ensures asked { let names = map string_bytes words.now in AskedClause (form_of names) names (I.asked inputs.old) (I.asked inputs.new) }
-    ensures ran { let names = map string_bytes words.now in Ran (form_of names) (I.file inputs.old) names
-        (Rose (I.faults inputs.old) (I.faults inputs.new)) (Rose (O.faults out.old) (O.faults out.new)) (O.written out.old) (O.written out.new) result.0 }
+    ensures read_later { I.faults inputs.old ≤ I.faults inputs.new }
+    ensures wrote_later { O.faults out.old ≤ O.faults out.new }
+    ensures ran { let names = map string_bytes words.now in Ran (form_of names) (I.file inputs.old) names (Rose (I.faults inputs.old) (I.faults inputs.new)) (Rose (O.faults out.old) (O.faults out.new))
+        (out.new ≡ out.old) (O.written out.old) (O.written out.new) result.0 }
     ensures room { MatchOption result.1 (IsConstant result.0) (λ line. line ≡ empty_text 128) }
 {
     match form_of(words) {
@@ -223,9 +238,11 @@ fn put_line<E: Sink>(err: &mut E, room: Option<LineBuf>, fault: &Fault) -> Resul
 ///
 /// `world BUILD SCRIPT` reads a build and a script and writes what the build shows: the header, a
 /// line for each view, and the trailer. `compile BUILD SCRIPT` writes the text of the compiled
-/// graph. `run BUILD SCRIPT [--graph] [--keep]` plays that graph and writes what it shows, with its
-/// counts, behind its text with `--graph`; with `--keep` nothing is pruned. `bench N` does so for a
-/// build of N units that it makes, 1 to 4,000, and writes a summary. Any other words are Usage.
+/// graph. `run BUILD SCRIPT [--graph] [--keep [--order]]` plays that graph and writes what it
+/// shows, with its counts, behind its text with `--graph`; with `--keep` nothing is pruned, and
+/// with `--order` a line for each place that fires stands before the line of its tick. `bench N`
+/// plays a build of N units that it makes, 1 to 4,000, and writes a summary. Any other words are
+/// Usage. A fault of `err` changes no status.
 pub fn redpile<I: Inputs, O: Sink, E: Sink>(
     alloc: Global,
     words: &[String],
@@ -239,14 +256,24 @@ pub fn redpile<I: Inputs, O: Sink, E: Sink>(
     ensures build { let names = map string_bytes words.now in BuildClause (form_of names) (I.file inputs.old) names result }
     ensures block { let names = map string_bytes words.now in BlockClause (form_of names) (I.file inputs.old) names result }
     ensures script { let names = map string_bytes words.now in ScriptClause (form_of names) (I.file inputs.old) names result }
+    ensures order { OrderClause result }
+    ensures graph { GraphClause result }
     ensures done { let names = map string_bytes words.now in DoneClause (form_of names) (I.file inputs.old) names (O.written out.old) (O.written out.new) result }
     ensures front { let names = map string_bytes words.now in FrontClause (form_of names) (I.file inputs.old) names (O.written out.old) (O.written out.new) result }
-    ensures nothing { (result ≡ Status.Done → ⊥) → (result ≡ Status.WriteFault → ⊥) → O.written out.new ≡ O.written out.old }
-    ensures asked { let names = map string_bytes words.now in AskedClause (form_of names) names (I.asked inputs.old) (I.asked inputs.new) }
     ensures complete { let names = map string_bytes words.now in CompleteClause (form_of names) (I.file inputs.old) names result }
     ensures line { let names = map string_bytes words.now in
-        LineClause (CauseOf (form_of names) (I.file inputs.old) names (Rose (I.faults inputs.old) (I.faults inputs.new)) (Rose (O.faults out.old) (O.faults out.new)))
+        LineClause (FaultsOf (form_of names) (I.file inputs.old) names (Rose (I.faults inputs.old) (I.faults inputs.new)) (Rose (O.faults out.old) (O.faults out.new)))
         (Rose (E.faults err.old) (E.faults err.new)) (E.written err.old) (E.written err.new) result }
+
+    // What stays as it was.
+    ensures nothing { (result ≡ Status.Done → ⊥) → (result ≡ Status.WriteFault → ⊥) → out.new ≡ out.old }
+    ensures quiet { result ≡ Status.Done → err.new ≡ err.old }
+    ensures unread { let names = map string_bytes words.now in UnreadClause (form_of names) (inputs.new ≡ inputs.old) }
+    ensures asked { let names = map string_bytes words.now in AskedClause (form_of names) names (I.asked inputs.old) (I.asked inputs.new) }
+    ensures files { I.file inputs.new ≡ I.file inputs.old }
+    ensures read_later { I.faults inputs.old ≤ I.faults inputs.new }
+    ensures wrote_later { O.faults out.old ≤ O.faults out.new }
+    ensures told_later { E.faults err.old ≤ E.faults err.new }
 {
     let (ending, room) = run(alloc, words, inputs, out);
     match ending {

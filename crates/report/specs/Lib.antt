@@ -5,4 +5,5 @@ pub mod ViewLine
 pub mod Trailers
 pub mod BenchText
 pub mod FireLine
+pub mod RunLines
 pub mod FaultLine

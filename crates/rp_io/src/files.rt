@@ -7,15 +7,26 @@ use crate::{Inputs, ReadFailed};
 use std::io::{ErrorKind, Read, Seek, SeekFrom};
 use std::{fs, io};
 
+/// A file that is being read, and the place that the next read begins at.
+#[derive(Drop)]
+struct Reading<F: Drop> {
+    name: String,
+    file: F,
+    at: u64,
+}
+
 /// The machine's files, by their paths. It tells no content and no names.
 ///
-/// A call opens the file, seeks and reads, so a file may change between two calls. Each error is a
-/// fault but want of memory, which is `NoMemory`. A call gives up to 65,536 bytes.
+/// A file is opened at its first byte and read on as long as it is asked for from where the last
+/// read ended, so what can be read but once, as a pipe, is read whole. A read from another place,
+/// or of another name, opens the file anew. Each error is a fault but want of memory, which is
+/// `NoMemory`. A call gives up to 65,536 bytes.
 #[derive(Drop)]
 pub struct FileInputs<R: fs::Files + AllocGlobal + Drop> {
     rt: R,
     /// A reader says nothing of the bytes behind those it read, so it has a buffer of its own.
     buffer: Vec<u8>,
+    reading: Option<Reading<R::File>>,
     /// The number of calls that failed.
     pub faults: u64,
 }
@@ -29,18 +40,39 @@ impl<R: fs::Files + AllocGlobal + Drop> FileInputs<R> {
         FileInputs {
             rt,
             buffer,
+            reading: None,
             faults: 0,
         }
     }
 
-    fn read_own(&mut self, name: &str, at: u64) -> io::Result<usize>
+    /// Reads up to so many bytes into the front of the buffer.
+    fn read_own(&mut self, name: &str, at: u64, most: usize) -> io::Result<usize>
         ensures count { IfOk result (λ n. n ≤ length self.new.buffer.items) }
         ensures faults { self.new.faults ≡ self.old.faults }
     {
         self.buffer.resize(CHUNK, 0)?;
+        let mut reading = match self.reading.take() {
+            Some(reading) if reading.at == at && reading.name.as_str() == name => reading,
+            _ => self.open(name, at)?,
+        };
+        let wanted = most.min(CHUNK);
+        let count = reading.file.read(&mut self.buffer[..wanted])?;
+        reading.at = at.saturating_add(count as u64);
+        self.reading = Some(reading);
+        Ok(count)
+    }
+
+    /// Opens a file to be read from a place on.
+    fn open(&self, name: &str, at: u64) -> io::Result<Reading<R::File>> {
         let mut file = fs::open(&self.rt, name)?;
-        file.seek(SeekFrom::Start(at))?;
-        file.read(self.buffer.as_mut_slice())
+        if at > 0 {
+            file.seek(SeekFrom::Start(at))?;
+        }
+        Ok(Reading {
+            name: String::from_str(self.rt.alloc(), name)?,
+            file,
+            at,
+        })
     }
 }
 
@@ -70,7 +102,7 @@ impl<R: fs::Files + AllocGlobal + Drop> Inputs for FileInputs<R> {
         ensures later { self.old.faults ≤ self.new.faults }
         ensures faults { self.new.faults ≡ (if is_fault_answer result then next_count self.old.faults else self.old.faults) }
     {
-        match self.read_own(name, at) {
+        match self.read_own(name, at, into.len()) {
             Ok(count) => Ok(copy_front(&self.buffer, count, into)),
             Err(error) => {
                 if error.kind() == ErrorKind::OutOfMemory {

@@ -1,7 +1,7 @@
-ghost use Rattle.std.specs.Prelude.{◌≡◌, ◌<◌, ◌≤◌, length, IfOk, OnOk, OnErr, IsErrOf, is_some};
+ghost use Rattle.std.specs.Prelude.{◌≡◌, ◌<◌, ◌≤◌, length, IfOk, OnOk, OnErr, IsErrOf, is_some, ◌+◌};
 ghost use Rattle.rp_io.specs.declared.whole.ReadRefusal.TheVariants.{NoMemory};
 ghost use Rattle.rp_io.specs.Causes.{Rose, StaysCount, HasCause, Wrote, WrotePrefix};
-ghost use Rattle.rp_io.specs.Reads.{AsksAlone, IsFile, IsLonger};
+ghost use Rattle.rp_io.specs.Reads.{Asks, AsksAlone, IsFile, IsLonger, ReadsAt};
 
 use crate::{Inputs, ReadFailed, Sink};
 use std::alloc::{AllocError, Global};
@@ -51,11 +51,38 @@ fn buffer(alloc: Global) -> Result<Vec<u8>, AllocError>
     vec![in alloc; 0u8; CHUNK]
 }
 
+/// Asks a source for the next piece of a file, of which no more than this many bytes may be asked
+/// for in all.
+fn ask<I: Inputs>(
+    inputs: &mut I,
+    name: &str,
+    at: u64,
+    most: u64,
+    into: &mut [u8],
+) -> Result<usize, ReadRefusal>
+    requires room { 0 < length into.old }
+    requires most { most ≤ 268435457 }
+    requires within { at + length into.old ≤ most }
+    ensures files { I.file inputs.new ≡ I.file inputs.old }
+    ensures asked { Asks (I.asked inputs.old) (I.asked inputs.new) name.now }
+    ensures bound { IfOk result (λ n. n ≤ length into.old) }
+    ensures bytes { IfOk result (λ n. ReadsAt (I.file inputs.old name.now) at n into.new) }
+    ensures later { I.faults inputs.old ≤ I.faults inputs.new }
+    ensures stays { StaysCount (I.faults inputs.old) (I.faults inputs.new) }
+    ensures fault { IsErrOf result ReadRefusal.ReadFault → Rose (I.faults inputs.old) (I.faults inputs.new) }
+    ensures long { IsErrOf result ReadRefusal.TooLong → ⊥ }
+{
+    match inputs.read_at(name, at, into) {
+        Ok(count) => Ok(count),
+        Err(failed) => Err(ReadRefusal::from(failed)),
+    }
+}
+
 /// Reads the file of this name from its first byte to its end. The limit is in bytes.
 ///
-/// `TooLong` comes as soon as more bytes than the limit were read. It must come where the file is
-/// longer and the source met no fault, want of memory aside, since no other answer may. Memory for
-/// the file is taken as its bytes come.
+/// `TooLong` comes as soon as one byte more than the limit was read, and no byte behind that one is
+/// asked for. It must come where the file is longer and the source met no fault, want of memory
+/// aside, since no other answer may. Memory for the file is taken as its bytes come.
 #[tactic(auto, using(crate::proofs::Counts::told_still))]
 pub fn read_whole<I: Inputs>(
     alloc: Global,
@@ -80,14 +107,17 @@ pub fn read_whole<I: Inputs>(
     let chunk = room.as_mut_slice();
     let mut bytes = Vec::new(alloc);
     'pieces: loop {
-        let count = inputs.read_at(name, bytes.len() as u64, chunk)?;
+        let at = bytes.len() as u64;
+        let wanted = (limit + 1 - at).min(chunk.len() as u64) as usize;
+        let piece = &mut chunk[..wanted];
+        let count = ask(inputs, name, at, limit + 1, piece)?;
         if count == 0 {
             return Ok(bytes);
         }
         if (bytes.len() + count) as u64 > limit {
             return Err(ReadRefusal::TooLong);
         }
-        bytes.extend_from_slice(&chunk[..count])?;
+        bytes.extend_from_slice(&piece[..count])?;
     }
 }
 

@@ -3,6 +3,8 @@
 
 mod head;
 mod last_view;
+#[cfg(test)]
+mod tests;
 mod values;
 
 pub use last_view::LastView;

@@ -22,5 +22,5 @@ returns-clause-front g c =
     let world = c.args.play.now.world in
     let header : c.args.header.now ≡ header_of world.plan c.args.script.now.marks = c.requires.header ∙ ap (λ (marks : List Pos). header_of world.plan marks) c.requires.marks in
     on_err_then c.put_run.result _ _
-    (part_of_world world.plan c.args.script.now (g.O.Sink.written c.args.out.now) (g.O.Sink.written c.put_run.new.out) world c.args.header.now refl c.requires.marks header)
+    (part_of_world world.plan c.args.script.now (g.O.Sink.written c.args.out.now) (g.O.Sink.written c.put_run.new.out) world c.args.header.now refl c.requires.marks header 0 0)
     c.put_run.ensures.front

@@ -10,13 +10,12 @@ returns-in-Err-clause-cause g c =
 pub returns-in-Err-TooLong-read_whole-clause-cause : goal.returns-in-Err-TooLong-read_whole-clause-cause
 returns-in-Err-TooLong-read_whole-clause-cause g c =
     let b = g.I.Inputs.file c.args.inputs.now c.args.build.now in
-    let build = c.in-Ok-read_build.build in (
-      build,
-      (
-        good_build b c.deref.result.now build (λ bytes is. c.deref.ensures.value ∙ c.in-Ok.ensures.whole bytes is) (subst (λ (bs : List ℕ). length bs ≤ 67108864) (sym c.deref.ensures.value) c.in-Ok.ensures.within) c.in-Ok-read_build.ensures.ok,
-        longer_later c.args.script.now (g.I.Inputs.file c.read_whole.new.inputs) (g.I.Inputs.file c.args.inputs.now) 1048576 c.in-Ok.ensures.files (c.in-Err-TooLong-read_whole.ensures.long (ap Err c.in-Err-TooLong-read_whole.field-0-is)),
-      ),
-    )
+    let build = c.in-Ok-read_build.build in
+    record {
+      target = build;
+      good = good_build b c.deref.result.now build (λ bytes is. c.deref.ensures.value ∙ c.in-Ok.ensures.whole bytes is) (subst (λ (bs : List ℕ). length bs ≤ 67108864) (sym c.deref.ensures.value) c.in-Ok.ensures.within) c.in-Ok-read_build.ensures.ok;
+      holds = longer_later c.args.script.now (g.I.Inputs.file c.read_whole.new.inputs) (g.I.Inputs.file c.args.inputs.now) 1048576 c.in-Ok.ensures.files (c.in-Err-TooLong-read_whole.ensures.long (ap Err c.in-Err-TooLong-read_whole.field-0-is));
+    }
 
 pub returns-clause-cause : goal.returns-clause-cause
 returns-clause-cause g c =

@@ -19,32 +19,32 @@ pieces-init g c = record {
 
 pub returns-then-count-eq0-clause-whole : goal.returns-then-count-eq0-clause-whole
 returns-then-count-eq0-clause-whole g c =
-    let here : c.len.result ≡ length c.pieces.bytes.items = omega arith in
+    let here : c.len-at.result ≡ length c.pieces.bytes.items = omega arith in
     let told = ap (λ f. f c.args.name.now) c.pieces.invariant.files in
-    let reads = subst (λ t. ReadsAt t c.len.result c.in_ok-count.count c.read_at.new.into) told c.in_ok-count.ensures.bytes in
-    front_whole _ c.pieces.bytes.items c.read_at.new.into c.len.result c.in_ok-count.count here c.pieces.invariant.front reads c.if-count-eq0.true
+    let reads = subst (λ t. ReadsAt t c.len-at.result c.in_ok-count.count c.ask.new.into) told c.in_ok-count.ensures.bytes in
+    front_whole _ c.pieces.bytes.items c.ask.new.into c.len-at.result c.in_ok-count.count here c.pieces.invariant.front reads c.if-count-eq0.true
 
 pub returns-then-len-count-clause-long : goal.returns-then-len-count-clause-long
 returns-then-len-count-clause-long g c _ =
-    let here : c.len.result ≡ length c.pieces.bytes.items = omega arith in
+    let here : c.len-at.result ≡ length c.pieces.bytes.items = omega arith in
     let told = ap (λ f. f c.args.name.now) c.pieces.invariant.files in
-    let reads = subst (λ t. ReadsAt t c.len.result c.in_ok-count.count c.read_at.new.into) told c.in_ok-count.ensures.bytes in
-    front_longer _ c.pieces.bytes.items c.read_at.new.into c.len.result c.in_ok-count.count c.args.limit here c.pieces.invariant.front reads (omega (arith, c.in_ok-count.ensures.bound)) (omega (arith, c.if-len-count.true))
+    let reads = subst (λ t. ReadsAt t c.len-at.result c.in_ok-count.count c.ask.new.into) told c.in_ok-count.ensures.bytes in
+    front_longer _ c.pieces.bytes.items c.ask.new.into c.len-at.result c.in_ok-count.count c.args.limit here c.pieces.invariant.front reads (omega (arith, c.in_ok-count.ensures.bound)) (omega (arith, c.if-len-count.true))
 
 pub pieces-preserved : goal.pieces-preserved
 pieces-preserved g c =
-    let here : c.len.result ≡ length c.pieces.bytes.items = omega arith in
+    let here : c.len-at.result ≡ length c.pieces.bytes.items = omega arith in
     let told = ap (λ f. f c.args.name.now) c.pieces.invariant.files in
-    let reads = subst (λ t. ReadsAt t c.len.result c.in_ok-count.count c.read_at.new.into) told c.in_ok-count.ensures.bytes in
-    let more = front_more _ c.pieces.bytes.items c.read_at.new.into c.len.result c.in_ok-count.count here c.pieces.invariant.front reads in
-    let items : c.extend_from_slice.new.self.items ≡ c.pieces.bytes.items ++ take c.in_ok-count.count c.read_at.new.into = grind (arith, common_steps) in
+    let reads = subst (λ t. ReadsAt t c.len-at.result c.in_ok-count.count c.ask.new.into) told c.in_ok-count.ensures.bytes in
+    let more = front_more _ c.pieces.bytes.items c.ask.new.into c.len-at.result c.in_ok-count.count here c.pieces.invariant.front reads in
+    let items : c.extend_from_slice.new.self.items ≡ c.pieces.bytes.items ++ take c.in_ok-count.count c.ask.new.into = grind (arith, common_steps) in
     record {
       files = c.in_ok-count.ensures.files ∙ c.pieces.invariant.files;
       asked = λ other apart. c.in_ok-count.ensures.asked.others other apart ∙ c.pieces.invariant.asked other apart;
-      told = told_still (g.I.Inputs.asked c.pieces.inputs c.args.name.now) (g.I.Inputs.asked c.read_at.new.self c.args.name.now) c.in_ok-count.ensures.asked.rose ∙ c.pieces.invariant.told;
+      told = told_still (g.I.Inputs.asked c.pieces.inputs c.args.name.now) (g.I.Inputs.asked c.ask.new.inputs c.args.name.now) c.in_ok-count.ensures.asked.rose ∙ c.pieces.invariant.told;
       later = omega (arith, c.pieces.invariant.later, c.in_ok-count.ensures.later);
       stays = λ fits. c.in_ok-count.ensures.stays (c.pieces.invariant.stays fits);
       room = omega arith;
-      within = omega (arith, ap length items, length-append c.pieces.bytes.items (take c.in_ok-count.count c.read_at.new.into), length-take c.in_ok-count.count c.read_at.new.into);
+      within = omega (arith, ap length items, length-append c.pieces.bytes.items (take c.in_ok-count.count c.ask.new.into), length-take c.in_ok-count.count c.ask.new.into);
       front = subst (IsFront (g.I.Inputs.file c.args.inputs.now c.args.name.now)) (sym items) more;
     }
