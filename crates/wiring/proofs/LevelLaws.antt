@@ -27,12 +27,13 @@ use Rattle.power_rules.specs.Bounded.{source_power-le, wire_cells-bounded}
 use Rattle.power_rules.specs.Readings.{readings_at}
 use Rattle.wiring.specs.Taps.{Tap, Direct, Wired as WiredTap, is_redstone}
 use Rattle.wiring.specs.Readers.{reader_taps, reader_side_taps}
+use Rattle.wiring.specs.Parts.{part_at}
 use Rattle.wiring.specs.Reads.{is_source, IsTap, IsPlain, tap_place, back_places, side_places, direct_places, highest, readings_with}
 use Rattle.wiring.specs.Things.{Numbered, IsNumbered, is_thing, number_at, held, spot, origin, number_of}
 use Rattle.wiring.specs.Numbers.{number_there, number_wire, number_thing, number_cases, held-there, held-none, number_of-there, spot_number, spot-there, held-spot}
 use Rattle.wiring.specs.Wired.{numbers_of, back_row, side_row, direct_row, feeder_row, base_for, level_cell, level_cells, IsGiven, row_level, Kind, Back, Side, Direct, Feeders, row_of, AllBelow, Wired, IsWired, Turns}
 use Rattle.wiring.proofs.Turning.{empty_below}
-use Rattle.wiring.proofs.ListLaws.{From_map, among-map, among-map_back, among-Contains, Contains-among}
+use Rattle.wiring.proofs.Lists.{From_map, among-map, among-map_back, among-Contains, Contains-among}
 use Rattle.wiring.proofs.ReadLaws.{source-dry, reader_backs-is_tap, reader_sides-is_tap, direct_places-source, readings-taps}
 
 -- ---- the cells
@@ -220,10 +221,11 @@ rows-below_as m w kind rows count e f = subst (λ (n : ℕ). AllBelow n rows) (s
 
 -- ---- what was made
 
-pub made : (m : Numbered) → IsNumbered m → (t : Wired) (count : ℕ) → count ≡ length m.spots → t.back ≡ map (row_of m Back) m.spots → t.side ≡ map (row_of m Side) m.spots → t.direct ≡ map (row_of m Direct) m.spots → t.feeders ≡ map (row_of m Feeders) m.spots →
+pub made : (m : Numbered) → IsNumbered m → (t : Wired) (count : ℕ) → count ≡ length m.spots → t.parts ≡ map (part_at m.plan m.marks) m.spots → t.back ≡ map (row_of m Back) m.spots → t.side ≡ map (row_of m Side) m.spots → t.direct ≡ map (row_of m Direct) m.spots → t.feeders ≡ map (row_of m Feeders) m.spots →
     Turns (replicate count []) t.readers (λ reader tap. Has (list_at t.back reader) tap ⊎ Has (list_at t.side reader) tap) →
     Turns (replicate count []) t.driven (λ reader tap. ((reader < length (replicate {A = List ℕ} count [])) × (tap ≡ reader)) ⊎ Has (list_at t.direct reader) tap) → IsWired m t
-made m w t count all back side direct feed read drive = record {
+made m w t count all parts back side direct feed read drive = record {
+  parts = parts;
   back = back;
   side = side;
   direct = direct;

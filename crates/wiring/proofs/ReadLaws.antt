@@ -22,7 +22,7 @@ use Rattle.power_rules.specs.RightWires.{source_power}
 use Rattle.wiring.specs.Taps.{Tap, Direct, Wired, back_taps, side_taps}
 use Rattle.wiring.specs.Readers.{reader_taps, reader_side_taps}
 use Rattle.wiring.specs.Reads.{given_of, tap_value, is_source, IsTap, IsPlain, tap_place, direct_of, back_places, side_places, direct_places, highest, back_with, readings_with, Agree}
-use Rattle.wiring.proofs.ListLaws.{From_one, among-flat_map, among-flat_map_back, among-append, greatest-append, greatest-flat_map}
+use Rattle.wiring.proofs.Lists.{From_one, among-flat_map, among-flat_map_back, among-append, greatest-append, greatest-flat_map}
 use Rattle.wiring.proofs.TapLaws.{read-taps, input-taps, lock-taps, lateral-taps, back-is_tap, side-is_tap}
 
 -- ---- what taps give
