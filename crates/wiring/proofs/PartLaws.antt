@@ -1,5 +1,5 @@
 -- The part of a number is that of its spot, and what a comparator reads is told by its part.
-use Rattle.std.proofs.Common.{◌≡◌, ℕ, ◌<◌, List, length, Option, refl, sym, ◌∙◌, ap}
+use Rattle.std.proofs.Common.{◌≡◌, ℕ, ◌<◌, List, length, refl, ◌∙◌, ap}
 use Rattle.std.proofs.lemmas.List.{get_or-map, length-map}
 use Rattle.block_table.specs.declared.Block.{Block}
 use Rattle.block_table.specs.declared.Block.TheVariants.{Comparator}

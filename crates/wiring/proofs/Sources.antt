@@ -1,9 +1,8 @@
 -- What gives power and is no wire: a wire lets none, so no shape is asked for.
-use Rattle.std.proofs.Common.{◌≡◌, Bool, true, false, List, [], ◌∷◌, ◌++◌, Option, Some, None, refl, sym, ◌∙◌, ap, inl, inr}
+use Rattle.std.proofs.Common.{◌≡◌, Bool, true, false, List, [], ◌∷◌, ◌++◌, Some, None, refl, sym, ◌∙◌, ap}
 use Rattle.std.specs.Prelude.{◌||◌, if◌then◌else◌}
 use Rattle.std.specs.List.{flat_map}
 use Rattle.std.specs.Option.{option_to_list}
-use Rattle.std.proofs.lemmas.Bool.{cases_Bool}
 use Rattle.std.proofs.lemmas.List.Concat.{flat_map-append}
 use Rattle.block_table.specs.declared.Block.{Block}
 use Rattle.block_table.specs.declared.Block.TheVariants.{Wire}
@@ -11,7 +10,7 @@ use Rattle.block_table.specs.declared.Side.{Side}
 use Rattle.circuit.specs.declared.Pos.{Pos}
 use Rattle.build.specs.Plan.{Plan, block_at}
 use Rattle.wire_shape.specs.Shape.{is_wire}
-use Rattle.wiring.specs.Taps.{Tap, Direct, Wired, lets_weak, lets_strong, wire_gives, when, strong_taps, weak_taps}
+use Rattle.wiring.specs.Taps.{Direct, Wired, lets_weak, lets_strong, wire_gives, when, strong_taps, weak_taps}
 use Rattle.wiring.specs.Reads.{direct_of}
 
 no_direct : (test : Bool) (q : Pos) → flat_map direct_of (when test (Wired q)) ≡ []

@@ -10,7 +10,7 @@ use Rattle.build.specs.Place.{sides}
 use Rattle.build.specs.Plan.{Plan}
 use Rattle.build.specs.Roles.{direct_at}
 use Rattle.wire_shape.specs.Shape.{across}
-use Rattle.wiring.specs.Taps.{Tap, Direct, Wired, back_taps, side_taps}
+use Rattle.wiring.specs.Taps.{Tap, Wired, back_taps, side_taps}
 
 -- the taps of its back
 abbrev pub reader_taps : Plan → Pos → Block → List Tap

@@ -1,7 +1,7 @@
 -- What taps what in a build, by the numbers of its things.
 use Rattle.std.specs.Prelude.{◌≡◌, ℕ, ◌<◌, ◌≤◌, ◌⊎◌, if◌then◌else◌, List, [], ◌∷◌, length, map, slice_index, None}
 use Rattle.circuit.specs.declared.Pos.{Pos}
-use Rattle.wire_net.specs.Net.{Cell, greatest, IsRight}
+use Rattle.wire_net.specs.Net.{Cell, greatest}
 use Rattle.wire_net.specs.Listed.{list_at}
 use Rattle.wire_net.specs.WaveSteps.{Has, AreBelow}
 use Rattle.wire_shape.specs.Shape.{wire_at}

@@ -33,8 +33,8 @@ one_more old now row parts next start end h e f g i =
 
 pub returns : goal.returns
 returns c =
-    let first : c.len-start.result ≡ length c.self.inside.numbers.items = omega arith in
-    let last : c.len-end.result ≡ length c.self.inside.numbers.items + length c.args.row.now = omega (arith, c.in_ok-extend_from_slice.ensures.len) in
-    one_more c.self.inside.numbers.items c.extend_from_slice.new.self.items c.args.row.now c.self.inside.parts.items c.push.new.self.items c.len-start.result c.len-end.result c.self.invariant
+    let first : c.in_ok-start.start ≡ length c.self.inside.numbers.items = omega (arith, c.in_ok-start.ensures.same) in
+    let last : c.in_ok-end.end ≡ length c.self.inside.numbers.items + length c.args.row.now = omega (arith, c.in_ok-end.ensures.same, c.in_ok-extend_from_slice.ensures.len) in
+    one_more c.self.inside.numbers.items c.extend_from_slice.new.self.items c.args.row.now c.self.inside.parts.items c.push.new.self.items c.in_ok-start.start c.in_ok-end.end c.self.invariant
     c.in_ok-extend_from_slice.ensures.items first last c.in_ok-push.ensures.items
     ∙ ap (λ (rows : List (List ℕ)). rows ++ c.args.row.now ∷ []) c.self.view_is
