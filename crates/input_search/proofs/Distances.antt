@@ -19,11 +19,13 @@ use Rattle.wire_shape.specs.FeederFacts.{feeder-wire}
 use Rattle.wire_shape.specs.WirePlaces.{wire_inside}
 use Rattle.power_rules.specs.Power.{undusted, read_no_dust}
 use Rattle.power_rules.specs.RightWires.{AreRight, source_power}
-use Rattle.input_search.specs.Taps.{Tap, Direct, Wired, back_taps}
-use Rattle.input_search.specs.Links.{From, at_weight, among, direct_of, read_by, wires_in, sources_in, links_below, wire_links}
+use Rattle.wiring.specs.Taps.{Tap, Direct, Wired, back_taps}
+use Rattle.input_search.specs.Links.{From, at_weight, among, direct_of, direct_places, wires_in, sources_in, links_below, wire_links}
 use Rattle.input_search.specs.Distances.{Steps, Here, Onward}
-use Rattle.input_search.proofs.Lists.{From_one, From_map, Reached, greatest-flat_map, greatest-among, greatest-most, greatest-reached, among-append_left, among-append_right, among-append, among-flat_map, among-flat_map_back, among-filter, among-map, among-map_back, among-Contains, Contains-among}
-use Rattle.input_search.proofs.TapLaws.{given_of, tap_value, read-taps, is_source, IsTap, back-is_tap}
+use Rattle.wiring.proofs.Lists.{From_one, From_map, Reached, greatest-flat_map, greatest-among, greatest-most, greatest-reached, among-append_left, among-append_right, among-append, among-flat_map, among-flat_map_back, among-filter, among-map, among-map_back, among-Contains, Contains-among}
+use Rattle.wiring.specs.Reads.{given_of, tap_value, is_source, IsTap}
+use Rattle.wiring.proofs.ReadLaws.{direct_places-source}
+use Rattle.wiring.proofs.TapLaws.{read-taps, back-is_tap}
 
 -- the greatest that links bring, where the node of a place gives so much
 abbrev pub brought : (Pos → ℕ) → List From → ℕ
@@ -98,15 +100,15 @@ steps-wires_in {b = b} {w = w} (Onward {v = v} {u = u} {n = n} path c) =
 pub record IsLinked (b : Plan) (w s : Pos) (n : ℕ) : Type 0 where
   pub wire : Pos
   pub steps : Steps b w wire n
-  pub read : Among (read_by b wire) s
+  pub read : Among (direct_places b wire) s
 
 sources-linked : (b : Plan) (w s : Pos) (n : ℕ) → Among (sources_in b w n) s → IsLinked b w s n
 sources-linked b w s n h =
-    let r : From_one (read_by b) (wires_in b w n) s = among-flat_map (read_by b) (wires_in b w n) s h in
+    let r : From_one (direct_places b) (wires_in b w n) s = among-flat_map (direct_places b) (wires_in b w n) s h in
     record { wire = r.it; steps = wires_in-steps b w n r.it r.is_in; read = r.gives }
 
 linked-sources : (b : Plan) (w s : Pos) (n : ℕ) → IsLinked b w s n → Among (sources_in b w n) s
-linked-sources b w s n l = among-flat_map_back (read_by b) (wires_in b w n) l.wire s (steps-wires_in l.steps) l.read
+linked-sources b w s n l = among-flat_map_back (direct_places b) (wires_in b w n) l.wire s (steps-wires_in l.steps) l.read
 
 -- whether a source gets a link at this distance
 abbrev pub is_new : List Pos → List From → Pos → Bool
@@ -172,16 +174,6 @@ around-is_tap b v tap h =
     let r : From_one (back_taps b false v) sides tap = among-flat_map (back_taps b false v) sides tap h in
     back-is_tap b false v r.it tap r.gives
 
-pub read_by-source : (b : Plan) (v s : Pos) → Among (read_by b v) s → is_source (block_at b s) ≡ true
-read_by-source b v s h =
-    let r : From_one direct_of (flat_map (back_taps b false v) sides) s = among-flat_map direct_of (flat_map (back_taps b false v) sides) s h in
-    of_tap r.it (around-is_tap b v r.it r.is_in) r.gives
-  where
-    of_tap : (tap : Tap) → IsTap b tap → Among (direct_of tap) s → is_source (block_at b s) ≡ true
-    of_tap (Direct p) t (inl e) = subst (λ (x : Pos). is_source (block_at b x) ≡ true) (sym e) t
-    of_tap (Direct p) t (inr k) = absurd k
-    of_tap (Wired p) t k = absurd k
-
 -- a source at some distance, which gives a wire its power
 record Fed (b : Plan) (source power : Pos → ℕ) (w : Pos) : Type 0 where
   wire : Pos
@@ -207,14 +199,14 @@ module _ (b : Plan) (source power : Pos → ℕ) (right : AreRight b source powe
   dry-tap (Wired p) t = rw t refl
 
   -- the law of direct taps, for a wire as reader
-  pub read_by-greatest : (v : Pos) → greatest (map out (read_by b v)) ≡ source_power b source v
+  pub direct_places-greatest : (v : Pos) → greatest (map out (direct_places b v)) ≡ source_power b source v
   unfolding source_power
-  read_by-greatest v =
+  direct_places-greatest v =
       greatest-flat_map out direct_of (tap_value b (undusted b source)) (flat_map (back_taps b false v) sides) (λ tap h. dry-tap tap (around-is_tap b v tap h))
       ∙ greatest-flat_map (tap_value b (undusted b source)) (back_taps b false v) (read_no_dust b source v) sides (λ s _. read-taps b (undusted b source) v s)
 
-  read_by-inside : (v s : Pos) → Among (read_by b v) s → in_box b s ≡ true
-  read_by-inside v s h = source-inside b s (read_by-source b v s h)
+  direct_places-inside : (v s : Pos) → Among (direct_places b v) s → in_box b s ≡ true
+  direct_places-inside v s h = source-inside b s (direct_places-source b v s h)
 
   -- a wire has at least what a wire that it reaches has, less the steps
   reached_below : {w v : Pos} {n : ℕ} → wire_at b w ≡ true → Steps b w v n → power v ≤ power w + n
@@ -254,8 +246,8 @@ module _ (b : Plan) (source power : Pos → ℕ) (right : AreRight b source powe
       each : (l : From) → IsLinked b w l.place l.weight → out l.place - l.weight ≤ power w
       each l k = omega (
         arith,
-        greatest-among out (read_by b k.wire) l.place k.read,
-        read_by-greatest k.wire,
+        greatest-among out (direct_places b k.wire) l.place k.read,
+        direct_places-greatest k.wire,
         base-below k.wire (steps-wire h k.steps),
         reached_below h k.steps,
       )
@@ -272,10 +264,10 @@ module _ (b : Plan) (source power : Pos → ℕ) (right : AreRight b source powe
       from_source : 0 < power w → Fed b source power w → power w ≤ brought out (links_below b w 16)
       from_source some f =
           let small : f.count < 16 = omega (arith, f.gives, base-below f.wire (steps-wire h f.steps), right.small f.wire) in
-          let r : Reached out (read_by b f.wire) = greatest-reached out (read_by b f.wire) (omega (arith, read_by-greatest f.wire, f.gives)) in
+          let r : Reached out (direct_places b f.wire) = greatest-reached out (direct_places b f.wire) (omega (arith, direct_places-greatest f.wire, f.gives)) in
           let l : HasLink (links_below b w 16) r.it f.count =
-          linked-links b w r.it f.count (read_by-inside f.wire r.it r.is_in) (record { wire = f.wire; steps = f.steps; read = r.is_in }) 16 small in
-          omega (arith, read_by-greatest f.wire, f.gives, r.is, linked-brings (links_below b w 16) r.it f.count l)
+          linked-links b w r.it f.count (direct_places-inside f.wire r.it r.is_in) (record { wire = f.wire; steps = f.steps; read = r.is_in }) 16 small in
+          omega (arith, direct_places-greatest f.wire, f.gives, r.is, linked-brings (links_below b w 16) r.it f.count l)
 
   -- the power of a wire is the greatest that its links bring
   pub wire_links-power : (w : Pos) → wire_at b w ≡ true → brought out (wire_links b w) ≡ power w

@@ -1,5 +1,5 @@
-pub mod Lists
-pub mod TapLaws
+pub use Rattle.wiring.proofs.Lists
+pub use Rattle.wiring.proofs.TapLaws
 pub mod Distances
 pub mod Readings
 pub mod RawLaws
@@ -11,7 +11,6 @@ pub mod WhichLinks
 mod RawRows
 mod AddSteps
 mod CellOrder
-mod Joined
 mod ListSteps
 mod RankSteps
 mod ReaderTaps
@@ -20,3 +19,4 @@ mod RawLinks
 mod WireNumbers
 mod WiringSteps
 mod Waves
+mod JoinedCells

@@ -15,7 +15,7 @@ use Rattle.build.specs.Places.{cell-place}
 use Rattle.graph.specs.GraphCircuit.{is_before}
 use Rattle.input_search.specs.Links.{From, at_weight, sources_in, links_below, wire_links}
 use Rattle.input_search.specs.Distances.{IsBefore, AreOrdered}
-use Rattle.input_search.proofs.Lists.{From_map, among-map}
+use Rattle.wiring.proofs.Lists.{From_map, among-map}
 use Rattle.input_search.proofs.Distances.{is_new, links-linked}
 
 -- ---- lists in which each item stands so to every later one

@@ -36,12 +36,14 @@ use Rattle.graph.specs.declared.Link.{Link}
 use Rattle.graph.specs.Graph.{Node, node_at}
 use Rattle.graph.specs.Readings.{reading, back_of, readings_of}
 use Rattle.graph.specs.RawNodes.{has_node, kind_of, bare_node, node_places}
-use Rattle.input_search.specs.Taps.{Tap, Direct, Wired, back_taps, side_taps}
+use Rattle.wiring.specs.Taps.{Tap, Direct, Wired, back_taps, side_taps}
 use Rattle.input_search.specs.Links.{From, wire_links, tap_links, through, back_links_of, side_links_of}
 use Rattle.input_search.specs.Raw.{number_in, link_of, links_of, linked_node, raw}
-use Rattle.input_search.proofs.Lists.{From_one, among-flat_map}
-use Rattle.input_search.proofs.TapLaws.{given_of, is_source, IsTap, back-is_tap, side-is_tap}
-use Rattle.input_search.proofs.Distances.{brought, in-places, source-inside, IsLinked, links-linked, read_by-source}
+use Rattle.wiring.proofs.Lists.{From_one, among-flat_map}
+use Rattle.wiring.specs.Reads.{given_of, is_source, IsTap}
+use Rattle.wiring.proofs.TapLaws.{back-is_tap, side-is_tap}
+use Rattle.wiring.proofs.ReadLaws.{direct_places-source}
+use Rattle.input_search.proofs.Distances.{brought, in-places, source-inside, IsLinked, links-linked}
 use Rattle.input_search.proofs.Readings.{back-links, side-links}
 
 -- ---- numbers of places
@@ -93,7 +95,7 @@ through-sources b taps l h i =
     of_tap r.it (h r.it r.is_in) r.gives
   where
     of_wire : (w : Pos) → Among (wire_links b w) l → is_source (block_at b l.place) ≡ true
-    of_wire w k = let s : IsLinked b w l.place l.weight = (links-linked b w 16 l k).1 in read_by-source b s.wire l.place s.read
+    of_wire w k = let s : IsLinked b w l.place l.weight = (links-linked b w 16 l k).1 in direct_places-source b s.wire l.place s.read
 
     of_tap : (tap : Tap) → IsTap b tap → Among (tap_links b tap) l → is_source (block_at b l.place) ≡ true
     of_tap (Direct p) t (inl e) = subst (λ (x : From). is_source (block_at b x.place) ≡ true) (sym e) t

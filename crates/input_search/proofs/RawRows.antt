@@ -14,7 +14,7 @@ use Rattle.graph.specs.declared.Group.TheVariants.{Back, Side as Lateral}
 use Rattle.graph.specs.declared.Link.{Link}
 use Rattle.graph.specs.Graph.{Node}
 use Rattle.graph.specs.RawNodes.{has_node, node_places}
-use Rattle.input_search.specs.Taps.{back_taps, side_taps}
+use Rattle.wiring.specs.Taps.{back_taps, side_taps}
 use Rattle.input_search.specs.Links.{wires_in, links_below, wire_links}
 use Rattle.input_search.specs.Raw.{links_of, raw}
 

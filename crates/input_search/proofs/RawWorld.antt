@@ -24,7 +24,7 @@ use Rattle.graph.specs.Graph.{Node, Nodes, node_at, HasNode}
 use Rattle.graph.specs.GraphCircuit.{role_of as node_role, role_at as node_role_at, base_of as node_base, begin_of, first_at as node_first_at, base_at as node_base_at, begin_at, place_at, readings_at, graph_circuit, Output, output_of, outputs_from}
 use Rattle.graph.specs.RawNodes.{has_node, kind_of, state_of, bare_node, node_places}
 use Rattle.input_search.specs.Raw.{stands_at, HoldAlike, number_in, linked_node, raw}
-use Rattle.input_search.proofs.Lists.{among-filter}
+use Rattle.wiring.proofs.Lists.{among-filter}
 use Rattle.input_search.proofs.RawLaws.{At_place, node-here, node-there, nodes-once, node-reads, linked-pos}
 use Rattle.input_search.proofs.Shown.{taken, output-place, each-output, shown-alike}
 

@@ -19,10 +19,11 @@ use Rattle.power_rules.specs.Readings.{readings_of}
 use Rattle.power_rules.specs.RightWires.{AreRight, level_with}
 use Rattle.graph.specs.Readings.{direct_back, far_back, back_of}
 use Rattle.graph.specs.RawNodes.{kind_of, unless_direct}
-use Rattle.input_search.specs.Taps.{Tap, Direct, Wired, back_taps, side_taps}
+use Rattle.wiring.specs.Taps.{Tap, Direct, Wired, back_taps, side_taps}
 use Rattle.input_search.specs.Links.{From, tap_links, through, back_links_of, side_links_of}
-use Rattle.input_search.proofs.Lists.{From_one, among-flat_map, greatest-flat_map}
-use Rattle.input_search.proofs.TapLaws.{given_of, tap_value, read-taps, input-taps, lock-taps, lateral-taps, is_source, IsTap, back-is_tap, side-is_tap}
+use Rattle.wiring.proofs.Lists.{From_one, among-flat_map, greatest-flat_map}
+use Rattle.wiring.specs.Reads.{given_of, tap_value, is_source, IsTap}
+use Rattle.wiring.proofs.TapLaws.{read-taps, input-taps, lock-taps, lateral-taps, back-is_tap, side-is_tap}
 use Rattle.input_search.proofs.Distances.{brought, wire_links-power}
 
 source-dry : (k : Block) → is_source k ≡ true → is_wire k ≡ false

@@ -14,14 +14,15 @@ use Rattle.build.specs.Plan.{Plan, volume, in_box, place_of, places, found_cell}
 use Rattle.build.specs.Places.{place_inside}
 use Rattle.wire_shape.specs.Shape.{wire_at}
 use Rattle.wire_shape.specs.Feeders.{feeders}
-use Rattle.input_search.specs.Links.{From, at_weight, among, read_by, wires_in, sources_in, links_below, with_distance}
+use Rattle.input_search.specs.Links.{From, at_weight, among, direct_places, wires_in, sources_in, links_below, with_distance}
 use Rattle.input_search.specs.CellLists.{has_cell, kept_cells, cells_of, places_of, AreCells}
 use Rattle.input_search.specs.Distances.{Steps, Here, Onward}
 use Rattle.input_search.specs.Rows.{row_at, is_met, AreBelow, Gathers}
 use Rattle.input_search.specs.Wiring.{wire_place, wire_places, AreLinked, IsWiring}
 use Rattle.input_search.proofs.CellOrder.{both, cell_among, cells_within}
-use Rattle.input_search.proofs.Distances.{among-in, in-among, in-places, or-left, or-right, source-inside, read_by-source, steps-wire, wires_in-steps, steps-wires_in}
-use Rattle.input_search.proofs.Lists.{From_one, From_map, among-flat_map, among-flat_map_back, among-filter, among-map, among-map_back, among-Contains, Contains-among}
+use Rattle.wiring.proofs.ReadLaws.{direct_places-source}
+use Rattle.input_search.proofs.Distances.{among-in, in-among, in-places, or-left, or-right, source-inside, steps-wire, wires_in-steps, steps-wires_in}
+use Rattle.wiring.proofs.Lists.{From_one, From_map, among-flat_map, among-flat_map_back, among-filter, among-map, among-map_back, among-Contains, Contains-among}
 use Rattle.input_search.proofs.WireNumbers.{has-among, among-has, all-among, numbers-apart, Numbered, numbered}
 
 -- ---- filters and tests
@@ -134,11 +135,11 @@ none_met (suc n) (suc i) = none_met n i
 
 -- the rows of what wires read are the cells of what they read
 pub rows-read : (b : Plan) (cells : List ℕ) (fed read : List (List ℕ)) → IsWiring b cells fed read → (wires : List ℕ) → AreBelow (length cells) wires
-    → flat_map (row_at read) wires ≡ cells_of b (flat_map (read_by b) (wire_places b cells wires))
+    → flat_map (row_at read) wires ≡ cells_of b (flat_map (direct_places b) (wire_places b cells wires))
 rows-read b cells fed read wiring [] h = refl
 rows-read b cells fed read wiring (x ∷ wires) h =
     (λ j. wiring.reads.read x (All-head (λ i. i < length cells) x wires h) j ++ rows-read b cells fed read wiring wires (All-tail (λ i. i < length cells) x wires h) j)
-    ∙ sym (filter_map-append (found_cell b) (read_by b (wire_place b cells x)) (flat_map (read_by b) (wire_places b cells wires)))
+    ∙ sym (filter_map-append (found_cell b) (direct_places b (wire_place b cells x)) (flat_map (direct_places b) (wire_places b cells wires)))
 
 -- no link, and nothing met
 pub none_linked : (b : Plan) (links : List From) (met : List Bool) → links ≡ [] → met ≡ replicate (volume b) false → AreLinked b links met
@@ -184,7 +185,7 @@ pub record IsAt (b : Plan) (w : Pos) (cells : List ℕ) (n : ℕ) (wires : List 
   pub reached : (i : ℕ) → Among wires i → Among (wires_in b w n) (wire_place b cells i)
   pub size : length met ≡ length cells
   pub all : (i : ℕ) → i < length cells → Among (wires_in b w n) (wire_place b cells i) → is_met met i ≡ true
-  pub read : (i : ℕ) → i < length cells → is_met met i ≡ true → has_cell wires i ≡ false → (s : Pos) → Among (read_by b (wire_place b cells i)) s → among (linked_places links) s ≡ true
+  pub read : (i : ℕ) → i < length cells → is_met met i ≡ true → has_cell wires i ≡ false → (s : Pos) → Among (direct_places b (wire_place b cells i)) s → among (linked_places links) s ≡ true
   pub fed : (i j : ℕ) → i < length cells → j < length cells → is_met met i ≡ true → has_cell wires i ≡ false → Among (feeders b (wire_place b cells i)) (wire_place b cells j) → is_met met j ≡ true
 
 module _ (b : Plan) (w : Pos) (is_wire : wire_at b w ≡ true) (cells : List ℕ) (fed read : List (List ℕ)) (wiring : IsWiring b cells fed read) where
@@ -244,21 +245,21 @@ module _ (b : Plan) (w : Pos) (is_wire : wire_at b w ≡ true) (cells : List ℕ
 
   module _ (n : ℕ) (wires : List ℕ) (met : List Bool) (links : List From) (here : IsAt b w cells n wires met links) where
     abbrev sources : List Pos
-    sources = flat_map (read_by b) (wire_places b cells wires)
+    sources = flat_map (direct_places b) (wire_places b cells wires)
 
     wire-below : (i : ℕ) → Among wires i → i < length cells
     wire-below i h = All-contains (λ i. i < length cells) wires i here.below (among-Contains wires i h)
 
-    source-in : (i : ℕ) (s : Pos) → Among wires i → Among (read_by b (at i)) s → Among sources s
-    source-in i s h k = among-flat_map_back (read_by b) (wire_places b cells wires) (at i) s (among-map_back at wires i h) k
+    source-in : (i : ℕ) (s : Pos) → Among wires i → Among (direct_places b (at i)) s → Among sources s
+    source-in i s h k = among-flat_map_back (direct_places b) (wire_places b cells wires) (at i) s (among-map_back at wires i h) k
 
     -- a source in n steps is read by one of the wires, or has a link
     source-old : (s : Pos) → Among (sources_in b w n) s → (Among sources s) ⊎ (among (linked_places links) s ≡ true)
     source-old s h =
-        let r : From_one (read_by b) (wires_in b w n) s = among-flat_map (read_by b) (wires_in b w n) s h in
+        let r : From_one (direct_places b) (wires_in b w n) s = among-flat_map (direct_places b) (wires_in b w n) s h in
         let v : Numbered b cells wiring.wires r.it = number_of n r.it r.is_in in
         let in_level : Among (wires_in b w n) (at v.number) = subst (Among (wires_in b w n)) (sym v.place) r.is_in in
-        let reads : Among (read_by b (at v.number)) s = subst (λ (p : Pos). Among (read_by b p) s) (sym v.place) r.gives in
+        let reads : Among (direct_places b (at v.number)) s = subst (λ (p : Pos). Among (direct_places b p) s) (sym v.place) r.gives in
         elim (cases_Bool (has_cell wires v.number)) [
           | inl e ↦ inl (source-in v.number s (among-has wires v.number e) reads)
           | inr e ↦ inr (here.read v.number v.below (here.all v.number v.below in_level) e s reads)
@@ -266,9 +267,9 @@ module _ (b : Plan) (w : Pos) (is_wire : wire_at b w ≡ true) (cells : List ℕ
 
     source-new : (s : Pos) → Among sources s → Among (sources_in b w n) s
     source-new s h =
-        let r : From_one (read_by b) (wire_places b cells wires) s = among-flat_map (read_by b) (wire_places b cells wires) s h in
+        let r : From_one (direct_places b) (wire_places b cells wires) s = among-flat_map (direct_places b) (wire_places b cells wires) s h in
         let m : From_map at wires r.it = among-map at wires r.it r.is_in in
-        among-flat_map_back (read_by b) (wires_in b w n) (at m.it) s (here.reached m.it m.is_in) (subst (λ (p : Pos). Among (read_by b p) s) (sym m.is) r.gives)
+        among-flat_map_back (direct_places b) (wires_in b w n) (at m.it) s (here.reached m.it m.is_in) (subst (λ (p : Pos). Among (direct_places b p) s) (sym m.is) r.gives)
 
     new_is : (s : Pos) → is_new sources links s ≡ is_new (sources_in b w n) links s
     new_is s = elim (cases_Bool (among (linked_places links) s)) [
@@ -344,8 +345,8 @@ module _ (b : Plan) (w : Pos) (is_wire : wire_at b w ≡ true) (cells : List ℕ
 
       linked_more : (s : Pos) → Among (sources) s → among (linked_places more) s ≡ true
       linked_more s h =
-          let r : From_one (read_by b) (wire_places b cells wires) s = among-flat_map (read_by b) (wire_places b cells wires) s h in
-          let box : in_box b s ≡ true = source-inside b s (read_by-source b r.it s r.gives) in
+          let r : From_one (direct_places b) (wire_places b cells wires) s = among-flat_map (direct_places b) (wire_places b cells wires) s h in
+          let box : in_box b s ≡ true = source-inside b s (direct_places-source b r.it s r.gives) in
           ap (λ (ls : List From). among (linked_places ls) s) added ∙ linked_or b n sources links s box ∙ or-right (among (linked_places links) s) (among sources s) (in-among sources s h)
 
       still_linked : (s : Pos) → among (linked_places links) s ≡ true → among (linked_places more) s ≡ true

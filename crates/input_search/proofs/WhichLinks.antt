@@ -5,13 +5,14 @@ use Rattle.std.proofs.lemmas.Bool.{and_parts, cases_lt}
 use Rattle.circuit.specs.declared.Pos.{Pos}
 use Rattle.circuit.specs.Circuit.{Among}
 use Rattle.build.specs.Plan.{Plan, in_box, places}
-use Rattle.input_search.specs.Links.{From, at_weight, among, read_by, sources_in, links_below, wire_links}
+use Rattle.input_search.specs.Links.{From, at_weight, among, direct_places, sources_in, links_below, wire_links}
 use Rattle.input_search.specs.Distances.{IsDistance}
-use Rattle.input_search.proofs.Lists.{From_map, among-append, among-filter, among-map, among-map_back, among-Contains, Contains-among}
-use Rattle.input_search.proofs.Distances.{in-among, source-inside, read_by-source, IsLinked, HasLink, is_new, links-linked, linked-links}
+use Rattle.wiring.proofs.Lists.{From_map, among-append, among-filter, among-map, among-map_back, among-Contains, Contains-among}
+use Rattle.wiring.proofs.ReadLaws.{direct_places-source}
+use Rattle.input_search.proofs.Distances.{in-among, source-inside, IsLinked, HasLink, is_new, links-linked, linked-links}
 
-inside-read : (b : Plan) (v s : Pos) → Among (read_by b v) s → in_box b s ≡ true
-inside-read b v s h = source-inside b s (read_by-source b v s h)
+inside-read : (b : Plan) (v s : Pos) → Among (direct_places b v) s → in_box b s ≡ true
+inside-read b v s h = source-inside b s (direct_places-source b v s h)
 
 -- a node that has a link at a lesser distance gets no other
 linked-not_new : (b : Plan) (w s : Pos) (n m : ℕ) → IsLinked b w s m → m < n → among (map (λ l. l.place) (links_below b w n)) s ≡ true
@@ -41,7 +42,7 @@ links-least b w (suc n) l h m i = elim (among-append (links_below b w n) (map (a
         true≢false (sym (sym (ap not t) ∙ g))
 
 distance-linked : (b : Plan) (w s : Pos) (n : ℕ) → IsDistance b w s n → IsLinked b w s n
-distance-linked b w s n d = record { wire = d.wire; steps = d.steps; read = Contains-among (read_by b d.wire) s d.read }
+distance-linked b w s n d = record { wire = d.wire; steps = d.steps; read = Contains-among (direct_places b d.wire) s d.read }
 
 weight-same : (l : From) (s : Pos) (n : ℕ) → l.place ≡ s → l.weight ≡ n → l ≡ at_weight n s
 weight-same l s n e f = whole l.place s l.weight n e f
@@ -62,8 +63,8 @@ wire_links-exact b w s n = (to, from)
           record {
             wire = l.wire;
             steps = l.steps;
-            read = among-Contains (read_by b l.wire) s l.read;
-            least = λ m v path d. links-least b w 16 (at_weight n s) i m (record { wire = v; steps = path; read = Contains-among (read_by b v) s d });
+            read = among-Contains (direct_places b l.wire) s l.read;
+            least = λ m v path d. links-least b w 16 (at_weight n s) i m (record { wire = v; steps = path; read = Contains-among (direct_places b v) s d });
           },
         )
 
@@ -75,6 +76,6 @@ wire_links-exact b w s n = (to, from)
         let r : HasLink (links_below b w 16) s n = linked-links b w s n (inside-read b l.wire s l.read) l 16 small in
         let k : IsLinked b w r.link.place r.link.weight = (links-linked b w 16 r.link r.is_in).1 in
         let j : IsLinked b w s r.link.weight = subst (λ (x : Pos). IsLinked b w x r.link.weight) r.place k in
-        let least : n ≤ r.link.weight = d.least r.link.weight j.wire j.steps (among-Contains (read_by b j.wire) s j.read) in
+        let least : n ≤ r.link.weight = d.least r.link.weight j.wire j.steps (among-Contains (direct_places b j.wire) s j.read) in
         among-Contains (links_below b w 16) (at_weight n s)
         (subst (λ (x : From). Among (links_below b w 16) x) (weight-same r.link s n r.place (omega (arith, r.light, least))) r.is_in)

@@ -19,7 +19,7 @@ use Rattle.input_search.specs.CellLists.{has_cell}
 use Rattle.input_search.specs.Wiring.{wire_cells, wire_place}
 use Rattle.input_search.proofs.CellOrder.{range_has}
 use Rattle.input_search.proofs.Distances.{or-right}
-use Rattle.input_search.proofs.Lists.{among-filter, Contains-among, among-Contains}
+use Rattle.wiring.proofs.Lists.{among-filter, Contains-among, among-Contains}
 use Rattle.input_search.proofs.Order.{before-filter, before-pairs}
 
 -- ---- numbers in lists

@@ -12,7 +12,7 @@ use Rattle.circuit.specs.declared.Pos.{Pos}
 use Rattle.build.specs.Plan.{Plan}
 use Rattle.wire_shape.specs.Feeders.{feeders}
 use Rattle.input_search.specs.CellLists.{cells_of}
-use Rattle.input_search.specs.Links.{read_by}
+use Rattle.input_search.specs.Links.{direct_places}
 use Rattle.input_search.specs.Rows.{row_at, AreBelow}
 use Rattle.input_search.specs.Wiring.{wire_place, wire_places, AreFeeders, AreReads}
 
@@ -52,9 +52,9 @@ feeders_more b cells rows next row n whole before below fed added = record {
 }
 
 pub reads_more : (b : Plan) (cells : List ℕ) (rows next : List (List ℕ)) (row : List ℕ) (n : ℕ) → length rows ≡ n → AreReads b cells rows n
-    → row ≡ cells_of b (read_by b (wire_place b cells n)) → next ≡ rows ++ row ∷ [] → AreReads b cells next (n + 1)
+    → row ≡ cells_of b (direct_places b (wire_place b cells n)) → next ≡ rows ++ row ∷ [] → AreReads b cells next (n + 1)
 reads_more b cells rows next row n whole before read added = record {
-  read = rows_more (λ k r. r ≡ cells_of b (read_by b (wire_place b cells k))) rows next row n whole before.read read added;
+  read = rows_more (λ k r. r ≡ cells_of b (direct_places b (wire_place b cells k))) rows next row n whole before.read read added;
 }
 
 -- one place more of a list

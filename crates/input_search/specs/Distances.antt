@@ -3,7 +3,7 @@ use Rattle.std.specs.Prelude.{◌≡◌, ℕ, suc, ◌<◌, ◌≤◌, ◌⊎◌
 use Rattle.circuit.specs.declared.Pos.{Pos}
 use Rattle.build.specs.Plan.{Plan, cell_of}
 use Rattle.wire_shape.specs.Feeders.{feeders}
-use Rattle.input_search.specs.Links.{From, read_by}
+use Rattle.input_search.specs.Links.{From, direct_places}
 
 -- w reaches v in n steps along feeders
 pub data Steps (b : Plan) (w : Pos) : Pos → ℕ → Type 0 where
@@ -14,8 +14,8 @@ pub data Steps (b : Plan) (w : Pos) : Pos → ℕ → Type 0 where
 pub record IsDistance (b : Plan) (w s : Pos) (n : ℕ) : Type 0 where
   pub wire : Pos
   pub steps : Steps b w wire n
-  pub read : Contains (read_by b wire) s
-  pub least : (m : ℕ) (v : Pos) → Steps b w v m → Contains (read_by b v) s → n ≤ m
+  pub read : Contains (direct_places b wire) s
+  pub least : (m : ℕ) (v : Pos) → Steps b w v m → Contains (direct_places b v) s → n ≤ m
 
 -- one link stands before another: it is nearer, or as near and its place comes first
 abbrev pub IsBefore : Plan → From → From → Type 0

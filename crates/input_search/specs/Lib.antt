@@ -1,9 +1,9 @@
-pub mod Taps
+pub use Rattle.wiring.specs.Taps
 pub mod Links
 pub mod Distances
 pub mod Raw
 pub mod CellLists
-pub mod Readers
+pub mod WireTaps
 pub mod Numbers
 pub mod Added
 pub mod Rows

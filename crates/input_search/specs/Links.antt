@@ -12,21 +12,14 @@ use Rattle.build.specs.Roles.{direct_at}
 use Rattle.wire_shape.specs.Shape.{across}
 use Rattle.wire_shape.specs.Feeders.{feeders}
 pub use Rattle.input_search.specs.declared.search.Origin.{Origin as From}
-use Rattle.input_search.specs.Taps.{Tap, Direct, Wired, back_taps, side_taps}
+use Rattle.wiring.specs.Taps.{Tap, Direct, Wired, back_taps, side_taps}
+pub use Rattle.wiring.specs.Reads.{direct_of, direct_places}
 
 abbrev pub at_weight : ℕ → Pos → From
 at_weight n p = record { place = p; weight = n }
 
 abbrev pub among : List Pos → Pos → Bool
 among ps p = list_any (same_place p) ps
-
-abbrev pub direct_of : Tap → List Pos
-direct_of (Direct p) = p ∷ []
-direct_of (Wired p) = []
-
--- the places of the components that the wire at v reads without dust: the direct taps of its six neighbours
-abbrev pub read_by : Plan → Pos → List Pos
-read_by b v = flat_map direct_of (flat_map (back_taps b false v) sides)
 
 -- the feeders of these wires, in order of places
 abbrev pub fed : Plan → List Pos → List Pos
@@ -39,7 +32,7 @@ wires_in b w (suc n) = fed b (wires_in b w n)
 
 -- what a wire in exactly n steps reads without dust
 abbrev pub sources_in : Plan → Pos → ℕ → List Pos
-sources_in b w n = flat_map (read_by b) (wires_in b w n)
+sources_in b w n = flat_map (direct_places b) (wires_in b w n)
 
 -- the links of one more distance: from the sources there that have no link yet, in order of places
 abbrev pub with_distance : Plan → ℕ → List Pos → List From → List From

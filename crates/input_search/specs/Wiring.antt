@@ -5,7 +5,7 @@ use Rattle.circuit.specs.declared.Pos.{Pos}
 use Rattle.build.specs.Plan.{Plan, volume, place_of}
 use Rattle.wire_shape.specs.Shape.{wire_at}
 use Rattle.wire_shape.specs.Feeders.{feeders}
-use Rattle.input_search.specs.Links.{From, among, read_by}
+use Rattle.input_search.specs.Links.{From, among, direct_places}
 use Rattle.input_search.specs.CellLists.{cells_of}
 use Rattle.input_search.specs.Rows.{row_at, is_met, AreBelow}
 
@@ -27,7 +27,7 @@ pub record AreFeeders (b : Plan) (cells : List ℕ) (rows : List (List ℕ)) (n 
 
 -- and the cells of what each reads
 pub record AreReads (b : Plan) (cells : List ℕ) (rows : List (List ℕ)) (n : ℕ) : Type 0 where
-  pub read : (number : ℕ) → number < n → row_at rows number ≡ cells_of b (read_by b (wire_place b cells number))
+  pub read : (number : ℕ) → number < n → row_at rows number ≡ cells_of b (direct_places b (wire_place b cells number))
 
 -- the wires of the build, with the rows of all
 pub record IsWiring (b : Plan) (cells : List ℕ) (fed read : List (List ℕ)) : Type 0 where

@@ -6,9 +6,7 @@ pub mod laws;
 mod met;
 mod node_links;
 mod readers;
-mod rows;
 mod search;
-mod taps;
-mod wiring;
+mod wires;
 
 pub use node_links::link;

@@ -4,7 +4,7 @@ ghost use Rattle.std.specs.Prelude.{◌≡◌, ◌<◌, [], ◌∷◌, All, OnOk
 ghost use Rattle.std.specs.List.{flat_map};
 ghost use Rattle.input_search.specs.Rows.{row_at, is_met, AreBelow, Gathers};
 
-use crate::rows::Rows;
+use number_rows::Rows;
 use rp_text::NoMemory;
 use std::alloc::Global;
 use std::marker::Model;

@@ -13,14 +13,14 @@ ghost use Rattle.input_search.specs.Wiring.{IsWiring};
 use crate::add::add_all;
 use crate::readers::{push_back_links, push_side_links};
 use crate::search::{Origin, Search};
-use crate::taps::Tap;
-use crate::wiring::Wiring;
+use crate::wires::Wiring;
 use build::Build;
 use circuit::Pos;
 use graph::{Graph, Group, Link, NodeKey};
 use node_arena::Key;
 use rp_text::NoMemory;
 use std::alloc::Global;
+use wiring::Tap;
 
 // The place of the node of a key.
 fn place_of_node(graph: &Graph, key: NodeKey) -> Option<Pos>

@@ -4,12 +4,12 @@ ghost use Rattle.std.specs.Prelude.{◌≡◌, ℕ, ◌<◌, [], ◌++◌, All, 
 ghost use Rattle.std.specs.List.{flat_map};
 ghost use Rattle.wire_shape.specs.Shape.{wire_at};
 ghost use Rattle.input_search.specs.CellLists.{kept_cells, places_of, AreCells};
-ghost use Rattle.input_search.specs.Links.{at_weight, read_by, with_distance, wire_links};
+ghost use Rattle.input_search.specs.Links.{at_weight, direct_places, with_distance, wire_links};
 ghost use Rattle.input_search.specs.Rows.{row_at, AreBelow, Gathers};
 ghost use Rattle.input_search.specs.Wiring.{wire_places, AreLinked, IsWiring};
 
 use crate::met::{Met, gather, gather_one};
-use crate::wiring::{Wiring, wire_number};
+use crate::wires::{Wiring, wire_number};
 use build::Build;
 use circuit::Pos;
 use rp_text::NoMemory;
@@ -66,7 +66,7 @@ fn add_distance(
     requires wiring { IsWiring build.now wiring.now.cells.items wiring.now.feeders wiring.now.reads }
     requires wires { AreBelow (length wiring.now.cells.items) wires.now }
     requires linked { AreLinked build.now links.old.items linked.old }
-    ensures links { OnOk result (links.new.items ≡ with_distance build.now distance (flat_map (read_by build.now) (wire_places build.now wiring.now.cells.items wires.now)) links.old.items) }
+    ensures links { OnOk result (links.new.items ≡ with_distance build.now distance (flat_map (direct_places build.now) (wire_places build.now wiring.now.cells.items wires.now)) links.old.items) }
     ensures linked { OnOk result (AreLinked build.now links.new.items linked.new) }
 {
     cells.clear();

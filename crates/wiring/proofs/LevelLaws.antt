@@ -1,6 +1,6 @@
 -- The levels of things: right ones are those of the world, and what is read is the greatest of a row.
-use Rattle.std.proofs.Common.{◌≡◌, ◌≢◌, ℕ, zero, suc, ◌+◌, ◌-◌, ◌<◌, ◌≤◌, max, Bool, true, false, List, [], ◌∷◌, length, map, Some, None, Option, refl, sym, ◌∙◌, ap, subst, arith, inl, inr, ◌⊎◌, slice_index}
-use Rattle.std.specs.Prelude.{slice_index_or, replicate, Contains}
+use Rattle.std.proofs.Common.{◌≡◌, ℕ, zero, suc, ◌-◌, ◌<◌, ◌≤◌, max, true, false, List, [], ◌∷◌, length, map, Some, refl, sym, ◌∙◌, ap, subst, arith, inl, inr, ◌⊎◌, slice_index}
+use Rattle.std.specs.Prelude.{slice_index_or, replicate}
 use Rattle.std.proofs.Math.Path.{fun_ext}
 use Rattle.std.proofs.Math.ListN.{get_or-eq_default}
 use Rattle.std.proofs.lemmas.Bool.{cases_Bool, cases_lt, false≢true}
@@ -9,30 +9,29 @@ use Rattle.std.proofs.lemmas.Simd.{map-map}
 use Rattle.block_table.specs.declared.Block.{Block}
 use Rattle.block_table.specs.declared.Block.TheVariants.{Torch, WallTorch, Repeater, Comparator, Lever, Button, Plate, RedstoneBlock, Weighted}
 use Rattle.circuit.specs.declared.Pos.{Pos}
-use Rattle.circuit.specs.declared.Readings.{Readings}
 use Rattle.circuit.specs.Circuit.{Among}
 use Rattle.build.specs.Plan.{block_at, entry}
-use Rattle.build.specs.Roles.{role_of}
-use Rattle.wire_net.specs.Net.{Cell, no_cell, cell_at, greatest, power_under, IsBounded, IsClosed, IsRight, feeders_of}
+use Rattle.wire_net.specs.Net.{no_cell, cell_at, greatest, power_under, IsBounded, IsRight}
 use Rattle.wire_net.specs.Laws.{right-at, right_bounded}
 use Rattle.wire_net.specs.Listed.{list_at}
 use Rattle.wire_net.specs.WaveSteps.{Has, AreBelow}
 use Rattle.wire_net.proofs.Lists.{has-of}
-use Rattle.wire_shape.specs.Shape.{is_wire, wire_at}
+use Rattle.wire_shape.specs.Shape.{wire_at}
 use Rattle.wire_shape.specs.Feeders.{feeders}
 use Rattle.wire_shape.specs.FeederFacts.{feeder-wire}
 use Rattle.power_rules.specs.RightWires.{source_power, AreRight, wire_powers, levels}
 use Rattle.power_rules.specs.WirePowers.{feeders-same, wires_right, wires_unique}
 use Rattle.power_rules.specs.Bounded.{source_power-le, wire_cells-bounded}
 use Rattle.power_rules.specs.Readings.{readings_at}
-use Rattle.wiring.specs.Taps.{Tap, Direct, Wired as WiredTap, is_redstone}
+use Rattle.wiring.specs.Taps.{Tap, Direct, Wired as WiredTap}
 use Rattle.wiring.specs.Readers.{reader_taps, reader_side_taps}
+use Rattle.wiring.specs.Parts.{part_at}
 use Rattle.wiring.specs.Reads.{is_source, IsTap, IsPlain, tap_place, back_places, side_places, direct_places, highest, readings_with}
-use Rattle.wiring.specs.Things.{Numbered, IsNumbered, is_thing, number_at, held, spot, origin, number_of}
-use Rattle.wiring.specs.Numbers.{number_there, number_wire, number_thing, number_cases, held-there, held-none, number_of-there, spot_number, spot-there, held-spot}
-use Rattle.wiring.specs.Wired.{numbers_of, back_row, side_row, direct_row, feeder_row, base_for, level_cell, level_cells, IsGiven, row_level, Kind, Back, Side, Direct, Feeders, row_of, AllBelow, Wired, IsWired, Turns}
+use Rattle.wiring.specs.Things.{Numbered, IsNumbered, is_thing, number_at, held, origin, number_of}
+use Rattle.wiring.specs.Numbers.{number_there, number_wire, number_thing, number_cases, held-there, held-none, number_of-there}
+use Rattle.wiring.specs.Wired.{numbers_of, back_row, side_row, feeder_row, level_cell, level_cells, IsGiven, row_level, Kind, Back, Side, Direct, Feeders, row_of, AllBelow, Wired, IsWired, Turns}
 use Rattle.wiring.proofs.Turning.{empty_below}
-use Rattle.wiring.proofs.ListLaws.{From_map, among-map, among-map_back, among-Contains, Contains-among}
+use Rattle.wiring.proofs.Lists.{From_map, among-map, among-map_back, among-Contains, Contains-among}
 use Rattle.wiring.proofs.ReadLaws.{source-dry, reader_backs-is_tap, reader_sides-is_tap, direct_places-source, readings-taps}
 
 -- ---- the cells
@@ -220,10 +219,11 @@ rows-below_as m w kind rows count e f = subst (λ (n : ℕ). AllBelow n rows) (s
 
 -- ---- what was made
 
-pub made : (m : Numbered) → IsNumbered m → (t : Wired) (count : ℕ) → count ≡ length m.spots → t.back ≡ map (row_of m Back) m.spots → t.side ≡ map (row_of m Side) m.spots → t.direct ≡ map (row_of m Direct) m.spots → t.feeders ≡ map (row_of m Feeders) m.spots →
+pub made : (m : Numbered) → IsNumbered m → (t : Wired) (count : ℕ) → count ≡ length m.spots → t.parts ≡ map (part_at m.plan m.marks) m.spots → t.back ≡ map (row_of m Back) m.spots → t.side ≡ map (row_of m Side) m.spots → t.direct ≡ map (row_of m Direct) m.spots → t.feeders ≡ map (row_of m Feeders) m.spots →
     Turns (replicate count []) t.readers (λ reader tap. Has (list_at t.back reader) tap ⊎ Has (list_at t.side reader) tap) →
     Turns (replicate count []) t.driven (λ reader tap. ((reader < length (replicate {A = List ℕ} count [])) × (tap ≡ reader)) ⊎ Has (list_at t.direct reader) tap) → IsWired m t
-made m w t count all back side direct feed read drive = record {
+made m w t count all parts back side direct feed read drive = record {
+  parts = parts;
   back = back;
   side = side;
   direct = direct;

@@ -1,8 +1,10 @@
-pub mod ListLaws
+pub mod Lists
 pub mod TapLaws
 pub mod ReadLaws
-mod Joined
+pub mod Joined
+pub mod Sources
 pub mod LevelLaws
+pub mod PartLaws
 pub mod Reached
 mod Numbering
 mod Turning

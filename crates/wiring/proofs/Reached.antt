@@ -1,16 +1,14 @@
 -- After one thing gives something else: which base powers change, and where something else is read.
-use Rattle.std.proofs.Common.{◌≡◌, ◌≢◌, ℕ, ◌<◌, ◌≤◌, Bool, true, false, List, [], ◌∷◌, length, map, Some, refl, sym, ◌∙◌, ap, subst, arith, inl, inr, ◌⊎◌, slice_index}
-use Rattle.std.specs.Prelude.{slice_index_or, Contains}
-use Rattle.std.proofs.Math.Path.{fun_ext}
+use Rattle.std.proofs.Common.{◌≡◌, ℕ, ◌<◌, ◌≤◌, true, false, List, [], ◌∷◌, length, map, Some, refl, sym, ◌∙◌, ap, subst, inl, inr, ◌⊎◌, slice_index}
+use Rattle.std.specs.Prelude.{Contains}
 use Rattle.std.proofs.lemmas.Bool.{cases_Bool, cases_lt}
 use Rattle.std.proofs.lemmas.List.{get_or-map}
 use Rattle.std.proofs.lemmas.Simd.{map-map}
 use Rattle.circuit.specs.declared.Pos.{Pos}
 use Rattle.circuit.specs.Circuit.{Among}
 use Rattle.build.specs.Place.{same_place}
-use Rattle.build.specs.SamePlace.{place_one, place_itself}
+use Rattle.build.specs.SamePlace.{place_one}
 use Rattle.wire_net.specs.Net.{Cell, cell_at, feeders_of, IsRight, WasRight}
-use Rattle.wire_net.specs.Laws.{nat_same}
 use Rattle.wire_net.specs.Listed.{list_at}
 use Rattle.wire_net.specs.WaveSteps.{Has}
 use Rattle.wire_net.proofs.Lists.{at-default}

@@ -1,8 +1,7 @@
 -- What is read at a place, and the base power of a wire, by taps.
-use Rattle.std.proofs.Common.{◌≡◌, ℕ, Bool, true, false, true≢false, List, [], ◌∷◌, ◌++◌, map, max, refl, sym, ◌∙◌, ap, subst, arith, inl, inr, Option, Some, None}
-use Rattle.std.specs.Prelude.{is_some, not, if◌then◌else◌}
+use Rattle.std.proofs.Common.{◌≡◌, ℕ, Bool, true, false, true≢false, List, [], ◌∷◌, map, max, refl, sym, ◌∙◌, ap, subst, arith, inl, inr, Option, Some, None}
+use Rattle.std.specs.Prelude.{is_some, if◌then◌else◌}
 use Rattle.std.specs.List.{flat_map}
-use Rattle.std.proofs.lemmas.Bool.{cases_Bool}
 use Rattle.wire_net.specs.Net.{greatest}
 use Rattle.block_table.specs.declared.Side.{Side}
 use Rattle.block_table.specs.declared.Side.TheVariants.{Down}
@@ -10,19 +9,18 @@ use Rattle.block_table.specs.declared.Block.{Block}
 use Rattle.block_table.specs.declared.Block.TheVariants.{Wire, Torch, WallTorch, Repeater, Comparator, Lamp, Trapdoor, Note}
 use Rattle.block_table.specs.Facts.{opposite}
 use Rattle.circuit.specs.declared.Pos.{Pos}
-use Rattle.circuit.specs.declared.Readings.{Readings}
 use Rattle.circuit.specs.Circuit.{Among}
 use Rattle.build.specs.Place.{sides}
 use Rattle.build.specs.Plan.{Plan, block_at}
 use Rattle.build.specs.Roles.{direct_at, far_at}
-use Rattle.wire_shape.specs.Shape.{across, is_wire, wire_at}
-use Rattle.power_rules.specs.Power.{read, read_around, read_no_dust, undusted, only, input, measured, or_direct, or_far, lock_power, lateral_power, lateral_at, turned_at}
+use Rattle.wire_shape.specs.Shape.{across, is_wire}
+use Rattle.power_rules.specs.Power.{read, read_around, read_no_dust, undusted, input, measured, or_direct, or_far, lock_power, lateral_power, lateral_at, turned_at}
 use Rattle.power_rules.specs.Readings.{readings_of, readings_at}
 use Rattle.power_rules.specs.RightWires.{source_power}
 use Rattle.wiring.specs.Taps.{Tap, Direct, Wired, back_taps, side_taps}
 use Rattle.wiring.specs.Readers.{reader_taps, reader_side_taps}
 use Rattle.wiring.specs.Reads.{given_of, tap_value, is_source, IsTap, IsPlain, tap_place, direct_of, back_places, side_places, direct_places, highest, back_with, readings_with, Agree}
-use Rattle.wiring.proofs.ListLaws.{From_one, among-flat_map, among-flat_map_back, among-append, greatest-append, greatest-flat_map}
+use Rattle.wiring.proofs.Lists.{From_one, among-flat_map, greatest-flat_map}
 use Rattle.wiring.proofs.TapLaws.{read-taps, input-taps, lock-taps, lateral-taps, back-is_tap, side-is_tap}
 
 -- ---- what taps give

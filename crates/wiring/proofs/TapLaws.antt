@@ -14,10 +14,10 @@ use Rattle.circuit.specs.Circuit.{Among}
 use Rattle.build.specs.Place.{beside, sides, same_side}
 use Rattle.build.specs.Plan.{Plan, block_at, solid_at}
 use Rattle.wire_shape.specs.Shape.{is_wire, wire_at}
-use Rattle.power_rules.specs.Power.{full, only, weak_of, weak, strong_of, strong, charge, read, input, turned, turned_at, lateral, lateral_at}
+use Rattle.power_rules.specs.Power.{only, weak_of, weak, strong_of, strong, charge, read, input, turned, turned_at, lateral, lateral_at}
 use Rattle.wiring.specs.Taps.{Tap, Direct, Wired, lets_weak, lets_strong, wire_gives, when, strong_taps, weak_taps, back_taps, is_turned, is_redstone, side_taps}
 use Rattle.wiring.specs.Reads.{given_of, tap_value, is_source, IsTap}
-use Rattle.wiring.proofs.ListLaws.{From_one, among-flat_map, greatest-flat_map}
+use Rattle.wiring.proofs.Lists.{From_one, among-flat_map, greatest-flat_map}
 
 -- ---- one block
 

@@ -1,5 +1,5 @@
 -- What each kind of reader taps.
-use Rattle.std.specs.Prelude.{◌≡◌, true, false, if◌then◌else◌, List, [], ◌∷◌, is_some}
+use Rattle.std.specs.Prelude.{true, false, if◌then◌else◌, List, [], ◌∷◌, is_some}
 use Rattle.std.specs.List.{flat_map}
 use Rattle.block_table.specs.declared.Side.TheVariants.{Down}
 use Rattle.block_table.specs.declared.Block.{Block}
@@ -9,13 +9,8 @@ use Rattle.circuit.specs.declared.Pos.{Pos}
 use Rattle.build.specs.Place.{sides}
 use Rattle.build.specs.Plan.{Plan}
 use Rattle.build.specs.Roles.{direct_at}
-use Rattle.wire_shape.specs.Shape.{across, wire_at}
-use Rattle.wiring.specs.Taps.{Tap, Direct, Wired, back_taps, side_taps}
-
--- a tap of a wire is a wire
-abbrev pub IsWired : Plan → Tap → Type 0
-IsWired b (Direct p) = Unit {0}
-IsWired b (Wired w) = wire_at b w ≡ true
+use Rattle.wire_shape.specs.Shape.{across}
+use Rattle.wiring.specs.Taps.{Tap, Wired, back_taps, side_taps}
 
 -- the taps of its back
 abbrev pub reader_taps : Plan → Pos → Block → List Tap

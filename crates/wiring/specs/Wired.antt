@@ -1,7 +1,7 @@
 -- What taps what in a build, by the numbers of its things.
 use Rattle.std.specs.Prelude.{◌≡◌, ℕ, ◌<◌, ◌≤◌, ◌⊎◌, if◌then◌else◌, List, [], ◌∷◌, length, map, slice_index, None}
 use Rattle.circuit.specs.declared.Pos.{Pos}
-use Rattle.wire_net.specs.Net.{Cell, greatest, IsRight}
+use Rattle.wire_net.specs.Net.{Cell, greatest}
 use Rattle.wire_net.specs.Listed.{list_at}
 use Rattle.wire_net.specs.WaveSteps.{Has, AreBelow}
 use Rattle.wire_shape.specs.Shape.{wire_at}
@@ -10,6 +10,7 @@ use Rattle.power_rules.specs.RightWires.{source_power}
 use Rattle.wiring.specs.Reads.{back_places, side_places, direct_places}
 pub use Rattle.wiring.specs.declared.fill.Kind.{Kind}
 pub use Rattle.wiring.specs.declared.fill.Kind.TheVariants.{Back, Side, Direct, Feeders}
+use Rattle.wiring.specs.Parts.{Part, part_at}
 use Rattle.wiring.specs.Things.{Numbered, number_at, number_of}
 
 -- ---- the rows of one thing
@@ -41,8 +42,9 @@ row_of m Feeders p = feeder_row m p
 
 -- ---- the rows of all
 
--- For each thing its taps and feeders. Turned round: the readers that tap it, and behind itself the wires that it gives power to without dust.
+-- For each thing what it is, its taps and its feeders. Turned round: the readers that tap it, and behind itself the wires that it gives power to without dust.
 pub record Wired : Type 0 where
+  pub parts : List Part
   pub back : List (List ℕ)
   pub side : List (List ℕ)
   pub direct : List (List ℕ)
@@ -55,6 +57,7 @@ abbrev pub Taps : Wired → ℕ → ℕ → Type 0
 Taps w reader tap = Has (list_at w.back reader) tap ⊎ Has (list_at w.side reader) tap
 
 pub record IsWired (m : Numbered) (w : Wired) : Type 0 where
+  pub parts : w.parts ≡ map (part_at m.plan m.marks) m.spots
   pub back : w.back ≡ map (back_row m) m.spots
   pub side : w.side ≡ map (side_row m) m.spots
   pub direct : w.direct ≡ map (direct_row m) m.spots

@@ -1,19 +1,18 @@
 //! Fills the rows of taps of all things.
 
 ghost use Rattle.std.specs.Prelude.{◌≡◌, ◌∷◌, [], ◌++◌, IfOk, OnOk, IsTrue, map};
-ghost use Rattle.std.specs.List.{flat_map};
 ghost use Rattle.build.specs.Plan.{in_box};
 ghost use Rattle.wire_shape.specs.Feeders.{feeders};
 ghost use Rattle.wire_shape.specs.Shape.{wire_at};
-ghost use Rattle.wiring.specs.Reads.{tap_place, direct_of, back_places, side_places, direct_places};
+ghost use Rattle.wiring.specs.Reads.{tap_place, back_places, side_places, direct_places};
 ghost use Rattle.wiring.specs.Things.{number_of, spot};
 ghost use Rattle.wiring.specs.Wired.{numbers_of, back_row, side_row, direct_row, feeder_row, row_of};
 
 use crate::readers::{push_reader_side_taps, push_reader_taps};
-use crate::rows::Rows;
-use crate::taps::{Tap, push_taps_around};
+use crate::taps::{Tap, push_sources};
 use crate::things::Things;
 use circuit::Pos;
+use number_rows::Rows;
 use rp_text::NoMemory;
 use std::alloc::Global;
 use wire_shape::{feeders_of, wire_at};
@@ -64,21 +63,12 @@ fn push_taps(row: &mut Vec<u32>, things: &Things, taps: &[Tap]) -> Result<(), No
     Ok(())
 }
 
-fn push_direct(row: &mut Vec<u32>, things: &Things, tap: Tap) -> Result<(), NoMemory>
-    ensures { OnOk result (row.new.items ≡ row.old.items ++ numbers_of things.now (direct_of tap)) }
+// Appends the numbers of what stands at these places.
+fn push_places(row: &mut Vec<u32>, things: &Things, places: &[Pos]) -> Result<(), NoMemory>
+    ensures { OnOk result (row.new.items ≡ row.old.items ++ numbers_of things.now places.now) }
 {
-    match tap {
-        Tap::Direct(pos) => push_number(row, things, pos),
-        Tap::Wired(_) => Ok(()),
-    }
-}
-
-// Appends the numbers of the components among taps.
-fn push_directs(row: &mut Vec<u32>, things: &Things, taps: &[Tap]) -> Result<(), NoMemory>
-    ensures { OnOk result (row.new.items ≡ row.old.items ++ numbers_of things.now (flat_map direct_of taps.now)) }
-{
-    for tap in taps {
-        push_direct(row, things, *tap)?;
+    for pos in places {
+        push_number(row, things, *pos)?;
     }
     Ok(())
 }
@@ -111,18 +101,18 @@ fn push_sides(
     push_taps(row, things, taps)
 }
 
-fn push_sources(
+fn push_direct(
     row: &mut Vec<u32>,
-    taps: &mut Vec<Tap>,
+    sources: &mut Vec<Pos>,
     things: &Things,
     pos: Pos,
 ) -> Result<(), NoMemory>
     requires { IsTrue (in_box things.now.plan pos) }
     ensures { OnOk result (row.new.items ≡ row.old.items ++ numbers_of things.now (direct_places things.now.plan pos)) }
 {
-    taps.clear();
-    push_taps_around(taps, things.build(), pos)?;
-    push_directs(row, things, taps)
+    sources.clear();
+    push_sources(sources, things.build(), pos)?;
+    push_places(row, things, sources)
 }
 
 fn push_feeders(row: &mut Vec<u32>, things: &Things, pos: Pos) -> Result<(), NoMemory>
@@ -140,6 +130,7 @@ fn push_feeders(row: &mut Vec<u32>, things: &Things, pos: Pos) -> Result<(), NoM
 fn push_row(
     row: &mut Vec<u32>,
     taps: &mut Vec<Tap>,
+    sources: &mut Vec<Pos>,
     things: &Things,
     kind: Kind,
     pos: Pos,
@@ -156,7 +147,7 @@ fn push_row(
         },
         Kind::Side => push_sides(row, taps, things, pos),
         Kind::Direct => if wire {
-            push_sources(row, taps, things, pos)
+            push_direct(row, sources, things, pos)
         } else {
             Ok(())
         },
@@ -175,9 +166,17 @@ pub fn rows_of(alloc: Global, things: &Things, kind: Kind) -> Result<Rows, NoMem
     let mut rows = Rows::new(alloc);
     let mut row = Vec::new(alloc);
     let mut taps = Vec::new(alloc);
+    let mut sources = Vec::new(alloc);
     for number in 0..things.count() {
         row.clear();
-        push_row(&mut row, &mut taps, things, kind, things.spot(number))?;
+        push_row(
+            &mut row,
+            &mut taps,
+            &mut sources,
+            things,
+            kind,
+            things.spot(number),
+        )?;
         rows.push(&row)?;
     }
     Ok(rows)

@@ -4,16 +4,16 @@
 
 mod fill;
 pub mod laws;
-mod lists;
+mod parts;
 mod readers;
-mod rows;
 mod taps;
 mod things;
 mod turn;
 mod wiring;
 
 pub use fill::Kind;
-pub use rows::Rows;
-pub use taps::Tap;
+pub use parts::Part;
+pub use readers::{push_reader_side_taps, push_reader_taps};
+pub use taps::{Tap, push_sources};
 pub use things::Things;
 pub use wiring::Wiring;

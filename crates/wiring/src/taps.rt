@@ -7,6 +7,7 @@ ghost use Rattle.block_table.specs.Facts.{opposite};
 ghost use Rattle.build.specs.Place.{beside, sides};
 ghost use Rattle.build.specs.Plan.{IsNear, in_box, block_at};
 ghost use Rattle.wire_shape.specs.Shape.{wire_at};
+ghost use Rattle.wiring.specs.Reads.{direct_of, direct_places};
 ghost use Rattle.wiring.specs.Taps.{lets_weak, lets_strong, wire_gives, when, strong_taps, weak_taps, back_taps, is_turned, is_redstone, side_taps};
 
 use block_table::{Block, Side, is_solid, opposite};
@@ -134,7 +135,7 @@ fn push_strong_taps(taps: &mut Vec<Tap>, build: &Build, pos: Pos) -> Result<(), 
 
 /// Appends the taps of the read place on a side of the reader at a place.
 #[tactic(auto, using(build::specs::Near::near_inside_three, build::specs::Near::near_next), unfolding(crate::specs::Taps::back_taps))]
-pub fn push_back_taps(
+pub(crate) fn push_back_taps(
     taps: &mut Vec<Tap>,
     build: &Build,
     diode: bool,
@@ -154,12 +155,87 @@ pub fn push_back_taps(
 }
 
 /// Appends the taps of the six read places around the reader at a place.
-pub fn push_taps_around(taps: &mut Vec<Tap>, build: &Build, reader: Pos) -> Result<(), NoMemory>
+pub(crate) fn push_taps_around(
+    taps: &mut Vec<Tap>,
+    build: &Build,
+    reader: Pos,
+) -> Result<(), NoMemory>
     requires { IsTrue (in_box build.now reader) }
     ensures { OnOk result (taps.new.items ≡ taps.old.items ++ flat_map (back_taps build.now false reader) sides) }
 {
     for side in SIDES {
         push_back_taps(taps, build, false, reader, side)?;
+    }
+    Ok(())
+}
+
+// What stands at a place and can give strong power on this side, if it is no wire: a wire lets none.
+#[tactic(auto, using(crate::proofs::Sources::strong_sources))]
+fn strong_source(build: &Build, pos: Pos, side: Side) -> Option<Pos>
+    ensures { option_to_list result ≡ flat_map direct_of (strong_taps build.now pos side) }
+{
+    lets_strong(build.at(pos), side).then_some(pos)
+}
+
+// What stands at a place and can give weak power on this side, if it is no wire.
+#[tactic(auto, using(crate::proofs::Sources::weak_sources))]
+fn weak_source(build: &Build, pos: Pos, side: Side) -> Option<Pos>
+    ensures { option_to_list result ≡ flat_map direct_of (weak_taps build.now false pos side) }
+{
+    lets_weak(build.at(pos), side).then_some(pos)
+}
+
+fn push_source(sources: &mut Vec<Pos>, source: Option<Pos>) -> Result<(), NoMemory>
+    ensures { OnOk result (sources.new.items ≡ sources.old.items ++ option_to_list source) }
+{
+    if let Some(source) = source {
+        sources.push(source)?;
+    }
+    Ok(())
+}
+
+// Appends what gives strong power to the solid block at a place, wires left out.
+#[tactic(auto, using(build::specs::Near::near_step))]
+fn push_strong_sources(sources: &mut Vec<Pos>, build: &Build, pos: Pos) -> Result<(), NoMemory>
+    requires { IsNear 1 pos }
+    ensures { OnOk result (sources.new.items ≡ sources.old.items ++ flat_map direct_of (flat_map (λ side. strong_taps build.now (beside side pos) (opposite side)) sides)) }
+{
+    for side in SIDES {
+        push_source(
+            sources,
+            strong_source(build, beside(pos, side), opposite(side)),
+        )?;
+    }
+    Ok(())
+}
+
+// Appends what gives power to the read place on a side of the wire at a place, wires left out.
+#[tactic(auto, using(build::specs::Near::near_inside_three, build::specs::Near::near_next), unfolding(crate::specs::Taps::back_taps))]
+fn push_sources_beside(
+    sources: &mut Vec<Pos>,
+    build: &Build,
+    reader: Pos,
+    side: Side,
+) -> Result<(), NoMemory>
+    requires { IsTrue (in_box build.now reader) }
+    ensures { OnOk result (sources.new.items ≡ sources.old.items ++ flat_map direct_of (back_taps build.now false reader side)) }
+{
+    let _ = build.width();
+    let neighbour = beside(reader, side);
+    if is_solid(build.at(neighbour)) {
+        push_strong_sources(sources, build, neighbour)
+    } else {
+        push_source(sources, weak_source(build, neighbour, opposite(side)))
+    }
+}
+
+/// Appends the places of what gives power to a wire without dust. No shape has to be found for it.
+pub fn push_sources(sources: &mut Vec<Pos>, build: &Build, wire: Pos) -> Result<(), NoMemory>
+    requires { IsTrue (in_box build.now wire) }
+    ensures { OnOk result (sources.new.items ≡ sources.old.items ++ direct_places build.now wire) }
+{
+    for side in SIDES {
+        push_sources_beside(sources, build, wire, side)?;
     }
     Ok(())
 }
@@ -202,7 +278,7 @@ fn side_tap(build: &Build, comparator: bool, reader: Pos, side: Side) -> Option<
 }
 
 /// Appends the taps of the diode at a place on one of its sides.
-pub fn push_side_taps(
+pub(crate) fn push_side_taps(
     taps: &mut Vec<Tap>,
     build: &Build,
     comparator: bool,

@@ -5,8 +5,7 @@ ghost use Rattle.wire_net.specs.Listed.{list_at};
 ghost use Rattle.wire_net.specs.WaveSteps.{AreBelow, Has};
 ghost use Rattle.wiring.specs.Wired.{AllBelow, Turns};
 
-use crate::lists::{Lists, rows_from};
-use crate::rows::Rows;
+use number_rows::{Lists, Rows, rows_from};
 use rp_text::NoMemory;
 use std::alloc::Global;
 

@@ -1,13 +1,15 @@
 //! What taps what in a build.
 
-ghost use Rattle.std.specs.Prelude.{◌≡◌, IfOk};
+ghost use Rattle.std.specs.Prelude.{◌≡◌, ◌<◌, IfOk, length};
 ghost use Rattle.wire_net.specs.Listed.{list_at};
+ghost use Rattle.wiring.specs.Parts.{part_in};
 ghost use Rattle.wiring.specs.Wired.{IsWired};
 
 use crate::fill::{Kind, rows_of};
-use crate::rows::Rows;
+use crate::parts::{Part, parts_of};
 use crate::things::Things;
 use crate::turn::{driven_of, readers_of};
+use number_rows::Rows;
 use rp_text::NoMemory;
 use std::alloc::Global;
 use std::marker::Model;
@@ -15,6 +17,7 @@ use std::marker::Model;
 /// What taps what in a build, by the numbers of its things. It is found once.
 #[derive(Drop)]
 pub struct Wiring {
+    parts: Vec<Part>,
     back: Rows,
     side: Rows,
     direct: Rows,
@@ -28,7 +31,7 @@ impl Model for Wiring {
 
     ghost Value = { Wired };
 
-    ghost view = { λ w. record { back = w.back; side = w.side; direct = w.direct; feeders = w.feeders; readers = w.readers; driven = w.driven } };
+    ghost view = { λ w. record { parts = w.parts.items; back = w.back; side = w.side; direct = w.direct; feeders = w.feeders; readers = w.readers; driven = w.driven } };
 
     ghost invariant = { λ w. Unit {0} };
 }
@@ -39,6 +42,7 @@ impl Wiring {
         ensures { IfOk result (λ wiring. IsWired things.now wiring) }
     {
         let count = things.count();
+        let parts = parts_of(alloc, things)?;
         let back = rows_of(alloc, things, Kind::Back)?;
         let side = rows_of(alloc, things, Kind::Side)?;
         let direct = rows_of(alloc, things, Kind::Direct)?;
@@ -46,6 +50,7 @@ impl Wiring {
         let readers = readers_of(alloc, &back, &side, count)?;
         let driven = driven_of(alloc, &direct, count)?;
         Ok(Wiring {
+            parts,
             back,
             side,
             direct,
@@ -53,6 +58,14 @@ impl Wiring {
             readers,
             driven,
         })
+    }
+
+    /// What is known of a thing before the build runs.
+    pub fn part(&self, number: usize) -> Part
+        requires { number < length self.now.parts }
+        ensures { result ≡ part_in self.now.parts number }
+    {
+        self.parts[number]
     }
 
     /// The taps of the back of a thing. A wire has none here.

@@ -1,11 +1,14 @@
 -- The bases of things anew, after one gives something else.
-use Rattle.std.proofs.Common.{◌≡◌, ◌≢◌, ℕ, ◌+◌, ◌<◌, ◌≤◌, Bool, true, false, List, [], length, map, set, slice_index, Some, refl, sym, ◌∙◌, ap, subst, inl, inr, ◌⊎◌, arith}
+use Rattle.std.proofs.Common.{◌≡◌, ◌≢◌, ℕ, ◌+◌, ◌<◌, ◌≤◌, Bool, true, false, List, [], length, map, set, slice_index, Option, Some, None, refl, sym, ◌∙◌, ap, subst, inl, inr, ◌⊎◌, arith}
 use Rattle.std.proofs.lemmas.Bool.{cases_Bool, cases_lt, false≢true}
 use Rattle.std.proofs.Math.ListN.{get_or-eq_default}
 use Rattle.std.proofs.lemmas.List.{length-set, length-map, get_or-map, get_or-set_same, get_or-set_other, ext_get_or}
 use Rattle.circuit.specs.declared.Pos.{Pos}
 use Rattle.circuit.specs.declared.Cell.{Cell}
-use Rattle.circuit.specs.Circuit.{Among}
+use Rattle.circuit.specs.declared.Component.{Component}
+use Rattle.circuit.specs.Component.{out}
+use Rattle.circuit.specs.Circuit.{Among, out_at}
+use Rattle.build.specs.Roles.{role_at, base_at}
 use Rattle.build.specs.Place.{same_place}
 use Rattle.build.specs.SamePlace.{place_one}
 use Rattle.build.specs.Plan.{block_at}
@@ -18,16 +21,16 @@ use Rattle.wire_shape.specs.Shape.{wire_at}
 use Rattle.wire_shape.specs.Feeders.{feeders}
 use Rattle.wire_shape.specs.FeederFacts.{feeders-few}
 use Rattle.power_rules.specs.RightWires.{source_power}
-use Rattle.cell_queue.specs.Held.{Holding}
+use Rattle.cell_queue.specs.Held.{Holding, cell_of}
 use Rattle.wiring.specs.Reads.{IsPlain, direct_places}
-use Rattle.wiring.specs.Things.{Numbered, IsNumbered, number_at, spot, origin, number_of}
-use Rattle.wiring.specs.Numbers.{spot_number, spot-there, number_of-there}
+use Rattle.wiring.specs.Things.{Numbered, IsNumbered, number_at, held, nothing, spot, origin, number_of}
+use Rattle.wiring.specs.Numbers.{held-spot, spot_number, spot-there, number_of-there}
 use Rattle.wiring.specs.Wired.{Wired, IsWired, base_for, bases_of, direct_row, feeder_row, level_cells, row_level}
 use Rattle.wiring.proofs.ReadLaws.{source-taps, direct_places-source, source-dry}
 use Rattle.wiring.proofs.LevelLaws.{row-places, direct_things, cells-at, cells-past, length-cells, fed_below}
 use Rattle.wiring.proofs.Reached.{base-or}
 use Rattle.world_engine.specs.Running.{given_by}
-use Rattle.world_engine.specs.Levels.{AreSure, AreSureBelow, AreBasedFrom, Unbased, Rebased, IsPlayingBy}
+use Rattle.world_engine.specs.Levels.{AreSure, AreSureBelow, AreBasedFrom, Unbased, Rebased, IsPlaying}
 use Rattle.world_engine.proofs.LevelSteps.{given_other}
 
 -- the base of a wire by those of its direct taps
@@ -124,7 +127,7 @@ module _ (m : Numbered) (w : IsNumbered m) (t : Wired) (wired : IsWired m t) (n 
       right k h (inl e) = e
       right k h (inr (j, above, short, there)) = absurd (omega arith)
 
-pub unbased_put : (m : Numbered) → IsNumbered m → (t : Wired) (old : Holding) (bases xs : List ℕ) (feeders : List (List ℕ)) (n : ℕ) (cell : Cell) → IsPlayingBy m t old bases xs feeders → n < length m.spots →
+pub unbased_put : (m : Numbered) → IsNumbered m → (t : Wired) (old : Holding) (bases xs : List ℕ) (feeders : List (List ℕ)) (n : ℕ) (cell : Cell) → IsPlaying m t old bases xs feeders → n < length m.spots →
     Unbased m t (given_by m (set old.cells n cell)) n bases
 unbased_put m w t old bases xs feeders n cell playing inside =
     unbased m w t playing.wired n inside (given_by m old.cells) (given_by m (set old.cells n cell)) (given_other m w t playing.wired old.cells n cell playing.holding.whole inside) bases playing.based
@@ -200,3 +203,22 @@ pub based_all : (m : Numbered) (given : Pos → ℕ) (i : ℕ) (bases : List ℕ
 based_all m given i bases whole past h =
     ext_get_or 0 bases (bases_of m given) (whole ∙ sym (length-map m.spots (base_for m given)))
     (λ k l. let low : k < length m.spots = omega (arith, whole) in h k (omega arith) ∙ sym (get_or-map (base_for m given) m.spots k origin 0 low))
+
+-- ---- what a thing gives
+
+out_some : (role : Option Component) (component : Component) (base : ℕ) (cell : Cell) → role ≡ Some component → out component cell.value ≡ out_at role base cell
+out_some None component base cell e = absurd (cc)
+out_some (Some one) component base cell e = let same : component ≡ one = cc in ap (λ (c : Component). out c cell.value) same
+
+out_none : (role : Option Component) (base : ℕ) (cell : Cell) → role ≡ None → base ≡ out_at role base cell
+out_none None base cell e = refl
+out_none (Some one) base cell e = absurd (cc)
+
+pub gives_value : (m : Numbered) → IsNumbered m → (cells : List Cell) (n : ℕ) → n < length m.spots → (component : Component) → role_at m.plan m.marks (spot m n) ≡ Some component →
+    out component (cell_of cells n).value ≡ given_by m cells (spot m n)
+gives_value m w cells n inside component role =
+    sym (ap (λ (c : Cell). out component c.value) (held-spot m w cells nothing n inside))
+    ∙ out_some (role_at m.plan m.marks (spot m n)) component (base_at m.plan (spot m n)) (held m cells nothing (spot m n)) role
+
+pub gives_base : (m : Numbered) (cells : List Cell) (n : ℕ) → role_at m.plan m.marks (spot m n) ≡ None → base_at m.plan (spot m n) ≡ given_by m cells (spot m n)
+gives_base m cells n role = out_none (role_at m.plan m.marks (spot m n)) (base_at m.plan (spot m n)) (held m cells nothing (spot m n)) role

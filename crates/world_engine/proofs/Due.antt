@@ -10,9 +10,9 @@ use Rattle.circuit.proofs.Runs.{due_at-true, due_at_from}
 use Rattle.build.specs.Roles.{role_at}
 use Rattle.cell_queue.specs.Held.{Holding, cell_of}
 use Rattle.wiring.specs.Things.{Numbered, IsNumbered, number_at, held, nothing}
-use Rattle.wiring.specs.Numbers.{held-there}
+use Rattle.wiring.specs.Numbers.{held-there, held-spot, spot-there, spot_number}
 use Rattle.world_engine.specs.Running.{circuit_of, state_of, spot, FiresOne, FiresNone, FiresAll}
-use Rattle.world_engine.proofs.Held.{test_of_places, number_role, held-spot, spot-there, spot_number}
+use Rattle.world_engine.proofs.Held.{test_of_places, number_role}
 
 -- the component of a thing has a tick that is due
 abbrev pub due_in : Numbered → Holding → ℕ → Bool

@@ -17,7 +17,7 @@ use Rattle.build.specs.Marks.{is_marked}
 use Rattle.build.specs.Roles.{role_of, role_at}
 use Rattle.wiring.specs.Things.{Numbered, IsNumbered, is_thing, number_at, held, nothing, state_by}
 use Rattle.wiring.specs.Numbers.{number_cases, number_inside, number_there, number_back, number_thing, held-there, held-none, option_cases}
-use Rattle.world_engine.specs.Running.{state_in, seen_as, circuit_of, spot}
+use Rattle.world_engine.specs.Running.{state_in, seen_as, circuit_of}
 
 pub test_of_places : IsTest same_place
 test_of_places = record { itself = place_itself; one = place_one }
@@ -87,13 +87,3 @@ held-set m w xs d x p q n l e = elim (cases_Bool (same_place q p)) [
 pub one-put : (m : Numbered) → IsNumbered m → (time : ℕ) (cells : List Cell) (p : Pos) (n : ℕ) (c : Cell) → length cells ≡ length m.spots → number_at m p ≡ Some n →
     state_by m time (set cells n c) ≡ put (circuit_of m) (state_by m time cells) p c
 one-put m w time cells p n c l e = λ i. record { time = time; cells = λ q. held-set m w cells nothing c p q n l e i }
-
--- what stands at the spot of a number
-pub spot_number : (m : Numbered) → IsNumbered m → (n : ℕ) → n < length m.spots → number_at m (spot m n) ≡ Some n
-spot_number m w n h = number_back m w n _ h
-
-pub held-spot : {A : Type 0} (m : Numbered) → IsNumbered m → (xs : List A) (d : A) (n : ℕ) → n < length m.spots → held m xs d (spot m n) ≡ get_or xs n d
-held-spot m w xs d n h = held-there m xs d (spot m n) n (spot_number m w n h)
-
-pub spot-there : (m : Numbered) → IsNumbered m → (p : Pos) (n : ℕ) → number_at m p ≡ Some n → (n < length m.spots) × (spot m n ≡ p)
-spot-there m w p n e = let t = number_there m w p n e in (t.0, t.1 _)

@@ -34,11 +34,9 @@ use Rattle.wiring.proofs.LevelLaws.{levels_world, levels_plain}
 use Rattle.wiring.proofs.Reached.{reads_or}
 use Rattle.world_engine.specs.Running.{circuit_of, state_of, given_by, AreWithin, AreIdle, IsHolding, after_attending}
 use Rattle.world_engine.specs.Given.{given-le}
-use Rattle.world_engine.specs.Levels.{reads_by, AreLevels, after_reading, HaveAttended, AreQuiet, OthersQuiet, IsTold, IsPlayingBy}
+use Rattle.world_engine.specs.Levels.{reads_by, AreLevels, after_reading, HaveAttended, AreQuiet, OthersQuiet, IsTold, IsPlaying}
 use Rattle.world_engine.proofs.Held.{held-set, role_none, one-put}
-use Rattle.world_engine.proofs.Attending.{out_at-after, attended_at-again, after-le}
-use Rattle.world_engine.proofs.Steps.{still_none}
-use Rattle.world_engine.proofs.Reached.{attended_at-reads}
+use Rattle.world_engine.proofs.Attending.{out_at-after, attended_at-again, attended_at-reads, still_none, after-le}
 use Rattle.world_engine.proofs.Within.{within_put}
 use Rattle.world_engine.proofs.Playing.{idle_after}
 
@@ -258,7 +256,7 @@ module _ (m : Numbered) (w : IsNumbered m) (t : Wired) (wired : IsWired m t) (ol
 
 -- ---- the whole event
 
-module _ (m : Numbered) (w : IsNumbered m) (t : Wired) (old : Holding) (bases xs : List ℕ) (feeders : List (List ℕ)) (n : ℕ) (cell : Cell) (playing : IsPlayingBy m t old bases xs feeders) (inside : n < length m.spots)
+module _ (m : Numbered) (w : IsNumbered m) (t : Wired) (old : Holding) (bases xs : List ℕ) (feeders : List (List ℕ)) (n : ℕ) (cell : Cell) (playing : IsPlaying m t old bases xs feeders) (inside : n < length m.spots)
     (bounded : BoundedAt (role_at m.plan m.marks (spot m n)) cell) where
   abbrev pub putting : Holding
   putting = record { time = old.time; cells = set old.cells n cell }

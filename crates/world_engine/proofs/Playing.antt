@@ -16,11 +16,11 @@ use Rattle.build.specs.Roles.{role_at, first_at, base_at}
 use Rattle.wire_net.specs.Net.{IsRight}
 use Rattle.cell_queue.specs.Held.{Holding, CanFollow, IsNow, NoneNow, IsFirst, cell_of, rested}
 use Rattle.wiring.specs.Things.{Numbered, IsNumbered, held, nothing}
-use Rattle.wiring.specs.Numbers.{held-there}
+use Rattle.wiring.specs.Numbers.{held-there, held-spot, spot_number}
 use Rattle.world_engine.specs.Running.{circuit_of, state_of, given_by, spot, AreIdle, FiresOne}
-use Rattle.world_engine.specs.Levels.{after_reading, AreQuiet, OthersQuiet, IsPlayingBy}
+use Rattle.world_engine.specs.Levels.{after_reading, AreQuiet, OthersQuiet, IsPlaying}
 use Rattle.wiring.specs.Wired.{Wired, bases_of, level_cells}
-use Rattle.world_engine.proofs.Held.{held-set, held-spot, number_role, spot_number}
+use Rattle.world_engine.proofs.Held.{held-set, number_role}
 use Rattle.world_engine.proofs.Follow.{delays_small, fired_follows, fired_rested, attended_now}
 
 -- ---- no tick where no component stands
@@ -95,7 +95,7 @@ out_by_value : (role : Option Component) (base : ℕ) (one two : Cell) → one.v
 out_by_value None base one two same = refl
 out_by_value (Some c) base one two same = ap (out c) same
 
-module _ (m : Numbered) (w : IsNumbered m) (t : Wired) (h : Holding) (bases xs : List ℕ) (feeders : List (List ℕ)) (n : ℕ) (playing : IsPlayingBy m t h bases xs feeders) (first : IsFirst h n) where
+module _ (m : Numbered) (w : IsNumbered m) (t : Wired) (h : Holding) (bases xs : List ℕ) (feeders : List (List ℕ)) (n : ℕ) (playing : IsPlaying m t h bases xs feeders) (first : IsFirst h n) where
   abbrev C : Circuit Pos
   C = circuit_of m
 
@@ -127,7 +127,7 @@ module _ (m : Numbered) (w : IsNumbered m) (t : Wired) (h : Holding) (bases xs :
   same_given : given_by m resting.cells ≡ given_by m h.cells
   same_given = fun_ext (λ q. out_by_value (role_at m.plan m.marks q) (base_at m.plan q) (held m resting.cells nothing q) (held m h.cells nothing q) (same_value q))
 
-  pub resting_playing : IsPlayingBy m t resting bases xs feeders
+  pub resting_playing : IsPlaying m t resting bases xs feeders
   resting_playing = record {
     wired = playing.wired;
     holding = record {

@@ -10,10 +10,11 @@ use Rattle.build.specs.Place.{same_place}
 use Rattle.build.specs.SamePlace.{place_itself, place_one}
 use Rattle.build.specs.Plan.{block_at, entry}
 use Rattle.build.specs.Roles.{role_at, stored, stored_of, stored_value, waiting_at, cell_with}
-use Rattle.wiring.specs.Things.{Numbered, IsNumbered, number_at, nothing}
+use Rattle.wiring.specs.Things.{Numbered, IsNumbered, number_at, held, nothing, state_by}
+use Rattle.wiring.specs.Numbers.{number_cases, held-there, held-none, spot_number, spot-there}
 use Rattle.world_engine.specs.Stores.{AreStored, stored_with}
 use Rattle.world_engine.specs.Running.{spot}
-use Rattle.world_engine.proofs.Held.{spot_number, spot-there}
+use Rattle.world_engine.proofs.Held.{role_none}
 
 some-none : {A : Type 0} (x : A) → ◌≡◌ {A = Option A} None (Some x) → ⊥
 some-none x e = cc
@@ -100,3 +101,18 @@ ticks_more m pending index d old new low high step before =
 pub stored_all : (m : Numbered) (cells : List Cell) → AreStored m m.plan.pending cells → (n : ℕ) → n < length m.spots → get_or cells n nothing ≡ stored m.plan m.marks (spot m n)
 unfolding stored stored_with
 stored_all m cells all n h = all n h
+
+nothing_stored : (role : Option Component) (value : ℕ) (tick : Option Pending) → role ≡ None → nothing ≡ stored_of role value tick
+nothing_stored None value tick h = refl
+nothing_stored (Some component) value tick h = absurd (cc)
+
+pub all-stored : (m : Numbered) → IsNumbered m → (cells : List Cell) → ((n : ℕ) → n < length m.spots → get_or cells n nothing ≡ stored m.plan m.marks (spot m n)) →
+    state_by m 0 cells ≡ record { time = 0; cells = stored m.plan m.marks }
+unfolding stored
+all-stored m w cells h = λ i. record { time = 0; cells = λ p. cell p i }
+  where
+    cell : (p : Pos) → held m cells nothing p ≡ stored m.plan m.marks p
+    cell p = elim (number_cases m p) [
+      | inl none ↦ held-none m cells nothing p none ∙ nothing_stored (role_at m.plan m.marks p) (stored_value (block_at m.plan p) (entry m.plan m.plan.levels 0 p)) (waiting_at m.plan.pending p) (role_none m w p none)
+      | inr n ↦ (let t = spot-there m w p n.0 n.1 in held-there m cells nothing p n.0 n.1 ∙ h n.0 t.0 ∙ ap (stored m.plan m.marks) t.1)
+    ]

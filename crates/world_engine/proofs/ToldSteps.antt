@@ -30,7 +30,7 @@ use Rattle.wiring.proofs.LevelLaws.{reads-rows}
 use Rattle.world_engine.specs.Running.{IsHolding}
 use Rattle.world_engine.specs.Levels.{reads_by, after_reading, HaveAttended, IsReader, IsReaderOf, IsTold}
 use Rattle.world_engine.proofs.Follow.{delays_small, attended_follows}
-use Rattle.world_engine.proofs.Steps.{still_none}
+use Rattle.world_engine.proofs.Attending.{still_none}
 use Rattle.world_engine.proofs.LevelSteps.{attended_then, attended_empty, within-attended}
 
 pub by_time : (m : Numbered) (t time : ℕ) (xs : List ℕ) (a b : List Cell) (D : Pos → Type 0) → t ≡ time → HaveAttended m t xs a b D → HaveAttended m time xs a b D
@@ -148,9 +148,9 @@ reading_holds m h xs n cell D holding a = record {
 -- ---- what one thing reads
 
 pub read_is : (m : Numbered) → IsNumbered m → (t : Wired) → IsWired m t → (xs : List ℕ) → IsPlain m.plan (held m xs 0) → (n : ℕ) → n < length m.spots → wire_at m.plan (spot m n) ≡ false →
-    (b : Plan) (p : Pos) (backs sides : List ℕ) (power back side : ℕ) → b ≡ m.plan → p ≡ spot m n → backs ≡ list_at t.back n → sides ≡ list_at t.side n → power ≡ row_level xs backs → back ≡ back_with b p (block_at b p) power → side ≡ row_level xs sides →
+    (backs sides : List ℕ) (power back side : ℕ) → backs ≡ list_at t.back n → sides ≡ list_at t.side n → power ≡ row_level xs backs → back ≡ back_with m.plan (spot m n) (block_at m.plan (spot m n)) power → side ≡ row_level xs sides →
     record { back = back; side = side } ≡ reads_by m xs (spot m n)
-read_is m w t wired xs plain n inside dry b p backs sides power back side eb ep from aside is strong beside =
+read_is m w t wired xs plain n inside dry backs sides power back side from aside is strong beside =
     (λ i. record { back = whole i; side = lateral i }) ∙ sym (reads-rows m w xs plain (spot m n) dry)
   where
     back_is : backs ≡ back_row m (spot m n)
@@ -160,7 +160,7 @@ read_is m w t wired xs plain n inside dry b p backs sides power back side eb ep 
     side_is = aside ∙ ap (λ (rows : List (List ℕ)). list_at rows n) wired.side ∙ get_or-map (side_row m) m.spots n origin [] inside
 
     whole : back ≡ back_with m.plan (spot m n) (block_at m.plan (spot m n)) (row_level xs (back_row m (spot m n)))
-    whole = strong ∙ (λ i. back_with (eb i) (ep i) (block_at (eb i) (ep i)) power) ∙ ap (back_with m.plan (spot m n) (block_at m.plan (spot m n))) (is ∙ ap (row_level xs) back_is)
+    whole = strong ∙ ap (back_with m.plan (spot m n) (block_at m.plan (spot m n))) (is ∙ ap (row_level xs) back_is)
 
     lateral : side ≡ row_level xs (side_row m (spot m n))
     lateral = beside ∙ ap (row_level xs) side_is

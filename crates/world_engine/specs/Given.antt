@@ -10,9 +10,7 @@ use Rattle.block_table.specs.declared.Block.{Block}
 use Rattle.block_table.specs.declared.Block.TheVariants.{RedstoneBlock}
 use Rattle.build.specs.Plan.{block_at}
 use Rattle.build.specs.Roles.{role_at, base_at, base_of}
-use Rattle.wire_net.specs.Net.{IsBounded}
 use Rattle.wiring.specs.Things.{Numbered, held, nothing}
-use Rattle.world_engine.specs.WireThings.{thing_cells, things_bounded}
 use Rattle.world_engine.specs.Running.{given_by, AreWithin}
 
 out-le : (component : Component) (value : ℕ) → value ≤ top component → out component value ≤ 15
@@ -32,6 +30,3 @@ given-le_at (Some component) base cell h w = out-le component cell.value (w comp
 pub given-le : (m : Numbered) (cells : List Cell) → AreWithin m cells → (p : Pos) → given_by m cells p ≤ 15
 unfolding base_at
 given-le m cells w p = given-le_at (role_at m.plan m.marks p) (base_at m.plan p) (held m cells nothing p) (base-le (block_at m.plan p)) (w p)
-
-pub given_bounded : (m : Numbered) (cells : List Cell) → AreWithin m cells → IsBounded (thing_cells m (given_by m cells))
-given_bounded m cells w = things_bounded m (given_by m cells) (given-le m cells w)

@@ -10,11 +10,9 @@ use Rattle.wire_net.specs.WaveSteps.{Has, Later}
 use Rattle.power_rules.specs.Readings.{readings_at}
 use Rattle.wire_shape.specs.Shape.{wire_at}
 use Rattle.cell_queue.specs.Held.{Holding, NoneNow}
-use Rattle.build.specs.declared.OutPlace.{OutPlace}
-use Rattle.build.specs.Outputs.{outputs}
 use Rattle.wiring.specs.Things.{Numbered, IsNumbered, held, nothing, spot}
 use Rattle.wiring.specs.Wired.{Wired, IsWired, base_for, bases_of, level_cells}
-use Rattle.world_engine.specs.Running.{given_by, after_attending, AreIdle, IsHolding}
+use Rattle.world_engine.specs.Running.{given_by, after_attending, output_keys, AreIdle, IsHolding}
 
 -- what each place reads where the things have these levels
 abbrev pub reads_by : Numbered → List ℕ → Pos → Readings
@@ -57,7 +55,7 @@ abbrev pub IsTold : Numbered → Wired → ℕ → Waved → Pos → Type 0
 IsTold m t n waves p = (p ≡ spot m n) ⊎ IsReaderOf m t (IsNoted waves) p
 
 -- Bases and levels are right for what the cells give.
-pub record IsPlayingBy (m : Numbered) (t : Wired) (h : Holding) (bases levels : List ℕ) (feeders : List (List ℕ)) : Type 0 where
+pub record IsPlaying (m : Numbered) (t : Wired) (h : Holding) (bases levels : List ℕ) (feeders : List (List ℕ)) : Type 0 where
   pub wired : IsWired m t
   pub holding : IsHolding m h
   pub based : bases ≡ bases_of m (given_by m h.cells)
@@ -94,10 +92,10 @@ pub record Rebased (m : Numbered) (t : Wired) (given : Pos → ℕ) (n i : ℕ) 
 -- ---- a world that runs
 
 -- All have attended, nothing is due, and what is shown is that of the build.
-pub record IsRunningBy (m : Numbered) (t : Wired) (outs : List OutPlace) (h : Holding) (bases levels : List ℕ) (feeders : List (List ℕ)) : Type 0 where
+pub record IsRunning (m : Numbered) (t : Wired) (keys : List ℕ) (h : Holding) (bases levels : List ℕ) (feeders : List (List ℕ)) : Type 0 where
   pub numbered : IsNumbered m
-  pub shown : outs ≡ outputs m.plan m.marks
-  pub playing : IsPlayingBy m t h bases levels feeders
+  pub shown : keys ≡ output_keys m
+  pub playing : IsPlaying m t h bases levels feeders
   pub quiet : AreQuiet m h.cells levels
   pub none : NoneNow h
   pub early : h.time ≤ 2 ^ 62

@@ -1,5 +1,3 @@
-pub mod Near
-pub mod WireThings
 pub mod Running
 pub mod Given
 pub mod Stores

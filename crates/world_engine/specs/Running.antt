@@ -1,25 +1,20 @@
 -- What a running world is, and what it is seen as.
-use Rattle.std.specs.Prelude.{◌≡◌, ◌≢◌, ◌≤◌, ◌<◌, ◌^◌, ◌⊎◌, ℕ, length, map, List, Option, Some, None}
+use Rattle.std.specs.Prelude.{◌≡◌, ◌≢◌, ◌≤◌, ◌<◌, ◌^◌, ◌⊎◌, ℕ, suc, length, map, List, Option, Some, None}
 use Rattle.circuit.specs.declared.Pos.{Pos}
 use Rattle.circuit.specs.declared.Component.{Component}
 use Rattle.circuit.specs.declared.Readings.{Readings}
 use Rattle.circuit.specs.declared.Cell.{Cell}
 use Rattle.circuit.specs.Component.{top}
 use Rattle.circuit.specs.Circuit.{Circuit, State, IsDue, IsFiringList, fire, fire_all, outs, seen, attended_at}
-use Rattle.cell_queue.specs.Held.{Holding, NoneNow}
+use Rattle.cell_queue.specs.Held.{Holding}
 use Rattle.build.specs.declared.OutPlace.{OutPlace}
+use Rattle.std.specs.Option.{option_map_or}
 use Rattle.build.specs.Plan.{Plan, entry, places}
 use Rattle.build.specs.Outputs.{outputs}
 use Rattle.build.specs.Roles.{role_at, first_at}
-use Rattle.wire_net.specs.Net.{IsRight}
-use Rattle.wire_net.specs.Noted.{Waved, IsNoted}
-use Rattle.power_rules.specs.Readings.{readings_at}
-use Rattle.power_rules.specs.RightWires.{level_with}
 use Rattle.power_rules.specs.World.{world_circuit}
 pub use Rattle.wiring.specs.Things.{spot}
-use Rattle.wiring.specs.Things.{Numbered, IsNumbered, held, nothing, state_by}
-use Rattle.world_engine.specs.WireThings.{thing_cells, feeders_in}
-use Rattle.world_engine.specs.Near.{IsNearby}
+use Rattle.wiring.specs.Things.{Numbered, number_at, held, nothing, state_by}
 
 -- the build that runs, its marks, the time, and what each cell of the box holds
 pub record Running : Type 0 where
@@ -48,14 +43,6 @@ circuit_of m = world_circuit m.plan m.marks
 abbrev pub given_by : Numbered → List Cell → Pos → ℕ
 given_by m cells = outs (circuit_of m) (state_by m 0 cells)
 
--- what each place reads, where the things have these powers
-abbrev pub reads_of : Numbered → List Cell → List ℕ → Pos → Readings
-reads_of m cells powers = readings_at m.plan (level_with m.plan (given_by m cells) (held m powers 0))
-
--- the powers are right for what the cells give
-abbrev pub ArePowers : Numbered → List Cell → List ℕ → Type 0
-ArePowers m cells powers = IsRight (thing_cells m (given_by m cells)) powers
-
 -- no value is above the greatest of its component
 abbrev pub AreWithin : Numbered → List Cell → Type 0
 AreWithin m cells = (p : Pos) (component : Component) → role_at m.plan m.marks p ≡ Some component → (held m cells nothing p).value ≤ top component
@@ -65,31 +52,6 @@ AreWithin m cells = (p : Pos) (component : Component) → role_at m.plan m.marks
 -- what a place holds after it has attended to this
 abbrev pub after_attending : Numbered → ℕ → (Pos → Readings) → Pos → Cell → Cell
 after_attending m time reads p cell = attended_at time (role_at m.plan m.marks p) (first_at m.plan p) reads p cell
-
--- The places that are done have attended, to what was read from the old cells, and of all others each has or has not.
-pub record Attends (m : Numbered) (time : ℕ) (powers : List ℕ) (old new : List Cell) (Done : Pos → Type 0) : Type 0 where
-  pub each : (p : Pos) → (held m new nothing p ≡ held m old nothing p)
-      ⊎ (held m new nothing p ≡ after_attending m time (reads_of m old powers) p (held m old nothing p))
-  pub done : (p : Pos) → Done p → held m new nothing p ≡ after_attending m time (reads_of m old powers) p (held m old nothing p)
-
--- attending changes nothing at a place, at whatever time
-abbrev pub IsStill : Numbered → List Cell → List ℕ → Pos → Type 0
-IsStill m cells powers p = (time : ℕ) → after_attending m time (reads_of m cells powers) p (held m cells nothing p) ≡ held m cells nothing p
-
-pub record AreStill (m : Numbered) (cells : List Cell) (powers : List ℕ) : Type 0 where
-  pub each : (p : Pos) → IsStill m cells powers p
-
--- at each place but one
-pub record OthersStill (m : Numbered) (cells : List Cell) (powers : List ℕ) (there : Pos) : Type 0 where
-  pub each : (p : Pos) → p ≢ there → IsStill m cells powers p
-
--- a place within two steps of one of these things
-abbrev pub IsNearOne : Numbered → (ℕ → Type 0) → Pos → Type 0
-IsNearOne m Listed p = (n : ℕ) × Listed n × IsNearby (spot m n) p
-
--- what may read something else than before: a place near the one that changed, or near a wire whose power changed
-abbrev pub IsReached : Numbered → Pos → Waved → Pos → Type 0
-IsReached m there waves p = IsNearby there p ⊎ IsNearOne m (IsNoted waves) p
 
 -- ---- what fires next
 
@@ -119,6 +81,17 @@ pub record FiresAll (C : Circuit Pos) (old new : State Pos) : Type 0 where
 abbrev pub shown_of : Numbered → List Cell → OutPlace → ℕ
 shown_of m cells o = seen (circuit_of m) (state_by m 0 cells) o.pos
 
+-- one more than the number of the thing at a place, and 0 where none stands
+abbrev pub key_at : Numbered → Pos → ℕ
+key_at m p = option_map_or suc (number_at m p) 0
+
+abbrev pub output_key : Numbered → OutPlace → ℕ
+output_key m o = key_at m o.pos
+
+-- what an output is found by
+abbrev pub output_keys : Numbered → List ℕ
+output_keys m = map (output_key m) (outputs m.plan m.marks)
+
 -- ---- a world that runs
 
 -- no tick is pending where no component stands
@@ -130,20 +103,3 @@ pub record IsHolding (m : Numbered) (h : Holding) : Type 0 where
   pub whole : length h.cells ≡ length m.spots
   pub within : AreWithin m h.cells
   pub early : h.time < 2 ^ 63
-
--- There is a power for each thing, and the powers are right.
-pub record IsPlaying (m : Numbered) (h : Holding) (powers : List ℕ) (feeders : List (List ℕ)) : Type 0 where
-  pub holding : IsHolding m h
-  pub powers_whole : length powers ≡ length m.spots
-  pub solved : ArePowers m h.cells powers
-  pub made : feeders ≡ feeders_in m
-  pub idle : AreIdle m h.cells
-
--- All have attended, nothing is due, and what is shown is that of the build.
-pub record IsRunning (m : Numbered) (outs : List OutPlace) (h : Holding) (powers : List ℕ) (feeders : List (List ℕ)) : Type 0 where
-  pub numbered : IsNumbered m
-  pub shown : outs ≡ outputs m.plan m.marks
-  pub playing : IsPlaying m h powers feeders
-  pub still : AreStill m h.cells powers
-  pub none : NoneNow h
-  pub early : h.time ≤ 2 ^ 62

@@ -10,13 +10,11 @@ ghost use Rattle.wiring.specs.Wired.{IsWired, base_for, bases_of, feeder_row, le
 ghost use Rattle.world_engine.specs.Running.{given_by, AreWithin};
 ghost use Rattle.world_engine.specs.Levels.{AreLevels, AreSure, AreSureBelow, Unbased, Rebased};
 
-use crate::sight::Given;
+use crate::parts::{base_of_block, is_wire_of, role_of};
 use cell_queue::Cells;
-use power_rules::Levels;
 use rp_text::NoMemory;
 use std::alloc::Global;
 use wire_net::{Net, Waves, resolve_noted, solve_into};
-use wire_shape::wire_at;
 use wiring::{Things, Wiring};
 
 /// The greatest level of a row.
@@ -31,22 +29,17 @@ pub(crate) fn row_level(levels: &[u8], row: &[u32]) -> u8
     level
 }
 
-/// Whether the thing of a number is a wire.
-pub(crate) fn is_wire_of(things: &Things, number: usize) -> bool
-    requires { number < length things.now.spots }
-    ensures { result ≡ wire_at things.now.plan (spot things.now number) }
-{
-    wire_at(things.build(), things.spot(number))
-}
-
 // What the thing of a number gives.
-fn given_of(things: &Things, cells: &Cells, number: usize) -> u8
+fn given_of(things: &Things, wiring: &Wiring, cells: &Cells, number: usize) -> u8
     requires inside { number < length things.now.spots }
-    requires within { AreWithin things.now cells.now.cells }
+    requires wired { IsWired things.now wiring.now }
     ensures { result ≡ given_by things.now cells.now.cells (spot things.now number) }
 {
-    let given = Given { things, cells };
-    given.level(things.spot(number))
+    let _ = things.count();
+    match role_of(things, wiring, number) {
+        Some(component) => circuit::out(component, cells.cell(number).value),
+        None => base_of_block(things, wiring, number),
+    }
 }
 
 // What a thing has without its feeders.
@@ -59,10 +52,10 @@ fn base_of(things: &Things, wiring: &Wiring, cells: &Cells, bases: &[u8], number
     ensures { result ≡ base_for things.now (given_by things.now cells.now.cells) (spot things.now number) }
 {
     let _ = things.count();
-    if is_wire_of(things, number) {
+    if is_wire_of(things, wiring, number) {
         row_level(bases, wiring.direct(number))
     } else {
-        given_of(things, cells, number)
+        given_of(things, wiring, cells, number)
     }
 }
 
@@ -75,35 +68,35 @@ fn put_base(things: &Things, wiring: &Wiring, cells: &Cells, bases: &mut [u8], n
     ensures { Rebased things.now wiring.now (given_by things.now cells.now.cells) number 0 bases.new }
 {
     let _ = things.count();
-    if is_wire_of(things, number) {
+    if is_wire_of(things, wiring, number) {
         return;
     }
-    bases[number] = given_of(things, cells, number);
+    bases[number] = given_of(things, wiring, cells, number);
 }
 
 // Gives a thing its base if it is no wire.
-fn put_given(things: &Things, cells: &Cells, bases: &mut [u8], number: usize)
+fn put_given(things: &Things, wiring: &Wiring, cells: &Cells, bases: &mut [u8], number: usize)
     requires inside { number < length things.now.spots }
-    requires within { AreWithin things.now cells.now.cells }
+    requires wired { IsWired things.now wiring.now }
     requires whole { length bases.old ≡ length things.now.spots }
     requires sure { AreSureBelow things.now (given_by things.now cells.now.cells) number bases.old }
     ensures { AreSureBelow things.now (given_by things.now cells.now.cells) (number + 1) bases.new }
 {
     let _ = things.count();
-    if is_wire_of(things, number) {
+    if is_wire_of(things, wiring, number) {
         return;
     }
-    bases[number] = given_of(things, cells, number);
+    bases[number] = given_of(things, wiring, cells, number);
 }
 
 // The bases of all things that are no wires.
-fn fill_given(things: &Things, cells: &Cells, bases: &mut [u8])
-    requires within { AreWithin things.now cells.now.cells }
+fn fill_given(things: &Things, wiring: &Wiring, cells: &Cells, bases: &mut [u8])
+    requires wired { IsWired things.now wiring.now }
     requires whole { length bases.old ≡ length things.now.spots }
     ensures { AreSure things.now (given_by things.now cells.now.cells) bases.new }
 {
     for number in 0..things.count() {
-        put_given(things, cells, bases, number);
+        put_given(things, wiring, cells, bases, number);
     }
 }
 
@@ -114,7 +107,7 @@ pub(crate) fn fill_bases(things: &Things, wiring: &Wiring, cells: &Cells, bases:
     requires whole { length bases.old ≡ length things.now.spots }
     ensures { bases.new ≡ bases_of things.now (given_by things.now cells.now.cells) }
 {
-    fill_given(things, cells, bases);
+    fill_given(things, wiring, cells, bases);
     for number in 0..things.count() {
         let base = base_of(things, wiring, cells, bases, number);
         bases[number] = base;
@@ -146,25 +139,27 @@ pub(crate) fn rebase(
 // The things as a net: each has its base, and a wire its feeders.
 #[derive(Drop)]
 struct LevelNet<'t, 'c, 'w, 'b> {
-    given: Given<'t, 'c>,
+    things: &'t Things,
+    cells: &'c Cells,
     wiring: &'w Wiring,
     bases: &'b [u8],
-    ghost fed: { wiring.now.feeders ≡ map (feeder_row given.things.now) given.things.now.spots },
-    ghost based: { bases.now ≡ bases_of given.things.now (given_by given.things.now given.cells.now.cells) },
-    ghost net_closed: { IsClosed (level_cells given.things.now (given_by given.things.now given.cells.now.cells)) },
+    ghost within: { AreWithin things.now cells.now.cells },
+    ghost fed: { wiring.now.feeders ≡ map (feeder_row things.now) things.now.spots },
+    ghost based: { bases.now ≡ bases_of things.now (given_by things.now cells.now.cells) },
+    ghost net_closed: { IsClosed (level_cells things.now (given_by things.now cells.now.cells)) },
 }
 
 impl<'t, 'c, 'w, 'b> Net for LevelNet<'t, 'c, 'w, 'b> {
     ghost use Rattle.world_engine.specs.LevelNets.{levels_bounded};
 
-    ghost net = { λ s. level_cells s.given.things.now (given_by s.given.things.now s.given.cells.now.cells) };
+    ghost net = { λ s. level_cells s.things.now (given_by s.things.now s.cells.now.cells) };
 
-    ghost bounded = { λ s. levels_bounded s.given.things.now s.given.cells.now.cells s.given.within };
+    ghost bounded = { λ s. levels_bounded s.things.now s.cells.now.cells s.within };
 
     ghost closed = { λ s. s.net_closed };
 
     fn cells(&self) -> u32 {
-        self.given.things.count() as u32
+        self.things.count() as u32
     }
 
     fn base(&self, cell: u32) -> u8 {
@@ -203,10 +198,10 @@ pub(crate) fn relevel(
     ensures inside { AreCells (length things.now.spots) waves.new }
 {
     let _ = things.count();
-    let given = Given { things, cells };
     resolve_noted(
         &LevelNet {
-            given,
+            things,
+            cells,
             wiring,
             bases,
         },
@@ -231,10 +226,10 @@ pub(crate) fn solve_levels(
     ensures { AreLevels things.now cells.now.cells levels.new }
 {
     let _ = things.count();
-    let given = Given { things, cells };
     solve_into(
         &LevelNet {
-            given,
+            things,
+            cells,
             wiring,
             bases,
         },
@@ -256,11 +251,11 @@ pub(crate) fn level_waves(
     ensures { IfOk result (λ waves. waves.feeders ≡ wiring.now.feeders) }
 {
     let _ = things.count();
-    let given = Given { things, cells };
     let waves = Waves::new(
         alloc,
         &LevelNet {
-            given,
+            things,
+            cells,
             wiring,
             bases,
         },

@@ -7,7 +7,7 @@ ghost use Rattle.build.specs.Roles.{role_at};
 ghost use Rattle.cell_queue.specs.Held.{CanFollow, cell_of};
 ghost use Rattle.wiring.specs.Things.{spot};
 ghost use Rattle.world_engine.specs.Running.{circuit_of, state_of};
-ghost use Rattle.world_engine.specs.Levels.{AreQuiet, OthersQuiet, IsPlayingBy};
+ghost use Rattle.world_engine.specs.Levels.{AreQuiet, OthersQuiet, IsPlaying};
 
 use crate::bases::{rebase, relevel};
 use crate::told::attend_told;
@@ -19,7 +19,7 @@ use wiring::{Things, Wiring};
 /// A thing holds another cell, the wires take their powers by it, and all components attend. No
 /// others have to than the thing itself and those that tap a thing whose level changed, since the
 /// others read what they read before.
-pub(crate) fn settle_by(
+pub(crate) fn settle(
     things: &Things,
     wiring: &Wiring,
     cells: &mut Cells,
@@ -30,13 +30,13 @@ pub(crate) fn settle_by(
     cell: Cell,
 )
     requires inside { number < length things.now.spots }
-    requires playing { IsPlayingBy things.now wiring.now cells.old bases.old levels.old waves.old.feeders }
+    requires playing { IsPlaying things.now wiring.now cells.old bases.old levels.old waves.old.feeders }
     requires quiet { OthersQuiet things.now cells.old.cells levels.old (spot things.now number) }
     requires follows { CanFollow cells.old.time (cell_of cells.old.cells number) cell }
     requires bounded { BoundedAt (role_at things.now.plan things.now.marks (spot things.now number)) cell }
     requires idle { role_at things.now.plan things.now.marks (spot things.now number) ≡ None → cell.due ≡ 0 }
     ensures settled { state_of things.now cells.new ≡ attend (circuit_of things.now) (put (circuit_of things.now) (state_of things.now cells.old) (spot things.now number) cell) }
-    ensures playing { IsPlayingBy things.now wiring.now cells.new bases.new levels.new waves.new.feeders }
+    ensures playing { IsPlaying things.now wiring.now cells.new bases.new levels.new waves.new.feeders }
     ensures quiet { AreQuiet things.now cells.new.cells levels.new }
 {
     let _ = things.count();

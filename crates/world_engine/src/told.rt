@@ -1,8 +1,7 @@
 //! How things attend by the levels of their taps.
 
-ghost use Rattle.std.specs.Prelude.{◌≡◌, ◌<◌, IsTrue, Some, false, length};
-ghost use Rattle.build.specs.Plan.{in_box, block_at};
-ghost use Rattle.build.specs.Roles.{direct_at, far_at, first_at, role_at};
+ghost use Rattle.std.specs.Prelude.{◌≡◌, ◌<◌, Some, false, length};
+ghost use Rattle.build.specs.Roles.{first_at, role_at};
 ghost use Rattle.circuit.specs.Component.{attended};
 ghost use Rattle.circuit.specs.Circuit.{attend, fired_at, seen_at};
 ghost use Rattle.circuit.specs.declared.Component.TheVariants.{Wire};
@@ -10,47 +9,18 @@ ghost use Rattle.cell_queue.specs.Held.{cell_of};
 ghost use Rattle.wire_net.specs.Noted.{AreCells};
 ghost use Rattle.wire_net.specs.WaveSteps.{Has};
 ghost use Rattle.wire_shape.specs.Shape.{wire_at};
-ghost use Rattle.power_rules.specs.Power.{or_direct, or_far};
-ghost use Rattle.wiring.specs.Things.{held, nothing, spot};
-ghost use Rattle.wiring.specs.Reads.{IsPlain, back_with};
+ghost use Rattle.wiring.specs.Things.{held, spot};
+ghost use Rattle.wiring.specs.Reads.{IsPlain};
 ghost use Rattle.wiring.specs.Wired.{IsWired};
 ghost use Rattle.world_engine.specs.Running.{circuit_of, given_by, state_of, IsHolding};
 ghost use Rattle.world_engine.specs.Levels.{AreLevels, AreQuiet, reads_by, HaveAttended, IsReader, IsReaderOf, IsTold};
 
-use crate::bases::{is_wire_of, row_level};
-use crate::sight::{cell_at, power_at};
-use block_table::{Block, Side};
-use build::Build;
+use crate::bases::row_level;
+use crate::parts::{is_first, is_wire_of, role_of, strengthened};
 use cell_queue::Cells;
-use circuit::{Cell, Component, Pos, Readings};
-use power_rules::{direct_strength, faces_diode, far_strength};
+use circuit::{Cell, Component, Readings};
 use wire_net::Waves;
 use wiring::{Things, Wiring};
-
-// What a comparator reads of its back, where its taps give so much.
-fn measured(build: &Build, pos: Pos, facing: Side, power: u8) -> u8
-    requires { IsTrue (in_box build.now pos) }
-    ensures { result ≡ or_direct (direct_at build.now pos facing) (or_far (far_at build.now pos facing) power) }
-{
-    if let Some(strength) = direct_strength(build, pos, facing) {
-        return strength;
-    }
-    match far_strength(build, pos, facing) {
-        Some(strength) if power < 15 => strength,
-        _ => power,
-    }
-}
-
-// What is read of a back, where its taps give so much.
-fn strengthened(build: &Build, pos: Pos, power: u8) -> u8
-    requires { IsTrue (in_box build.now pos) }
-    ensures { result ≡ back_with build.now pos (block_at build.now pos) power }
-{
-    match build.at(pos) {
-        Block::Comparator { facing, .. } => measured(build, pos, facing, power),
-        _ => power,
-    }
-}
 
 // What a thing that is no wire reads.
 fn reads_of(things: &Things, wiring: &Wiring, levels: &[u8], number: usize) -> Readings
@@ -65,7 +35,7 @@ fn reads_of(things: &Things, wiring: &Wiring, levels: &[u8], number: usize) -> R
     let back = row_level(levels, wiring.back(number));
     let side = row_level(levels, wiring.side(number));
     Readings {
-        back: strengthened(things.build(), things.spot(number), back),
+        back: strengthened(things, wiring, number, back),
         side,
     }
 }
@@ -90,7 +60,7 @@ fn attended_of(
     circuit::attended(
         cells.now(),
         component,
-        faces_diode(things.build(), things.spot(number)),
+        is_first(things, wiring, number),
         reads_of(things, wiring, levels, number),
         cells.cell(number),
     )
@@ -108,10 +78,10 @@ fn attend_thing(things: &Things, wiring: &Wiring, levels: &[u8], cells: &mut Cel
     ensures time { cells.new.time ≡ cells.old.time }
 {
     let _ = things.count();
-    if is_wire_of(things, number) {
+    if is_wire_of(things, wiring, number) {
         return;
     }
-    let Some(component) = things.role(things.spot(number)) else {
+    let Some(component) = role_of(things, wiring, number) else {
         return;
     };
     let cell = attended_of(things, wiring, levels, cells, number, component);
@@ -181,7 +151,7 @@ pub(crate) fn attend_told(
 }
 
 /// All things attend.
-pub(crate) fn attend_all_by(things: &Things, wiring: &Wiring, levels: &[u8], cells: &mut Cells)
+pub(crate) fn attend_all(things: &Things, wiring: &Wiring, levels: &[u8], cells: &mut Cells)
     requires wired { IsWired things.now wiring.now }
     requires right { AreLevels things.now cells.old.cells levels.now }
     requires holding { IsHolding things.now cells.old }
@@ -204,7 +174,7 @@ fn reads_any(things: &Things, wiring: &Wiring, levels: &[u8], number: usize) -> 
     ensures { result ≡ reads_by things.now levels.now (spot things.now number) }
 {
     let _ = things.count();
-    if is_wire_of(things, number) {
+    if is_wire_of(things, wiring, number) {
         Readings {
             back: levels[number],
             side: 0,
@@ -215,7 +185,7 @@ fn reads_any(things: &Things, wiring: &Wiring, levels: &[u8], number: usize) -> 
 }
 
 /// What the thing of a number holds after it has fired.
-pub(crate) fn fired_by(
+pub(crate) fn fired(
     things: &Things,
     wiring: &Wiring,
     levels: &[u8],
@@ -230,12 +200,11 @@ pub(crate) fn fired_by(
     ensures { result ≡ fired_at cells.now.time (role_at things.now.plan things.now.marks (spot things.now number)) (first_at things.now.plan (spot things.now number)) (reads_by things.now levels.now) (spot things.now number) (cell_of cells.now.cells number) }
 {
     let cell = cells.cell(number);
-    let pos = things.spot(number);
-    match things.role(pos) {
+    match role_of(things, wiring, number) {
         Some(component) => circuit::fired(
             cells.now(),
             component,
-            faces_diode(things.build(), pos),
+            is_first(things, wiring, number),
             reads_any(things, wiring, levels, number),
             cell,
         ),
@@ -244,22 +213,32 @@ pub(crate) fn fired_by(
 }
 
 // What a wire that is looked at shows.
-fn wire_shows(things: &Things, levels: &[u8], pos: Pos) -> u8
-    requires wire { role_at things.now.plan things.now.marks pos ≡ Some Wire }
+fn wire_shows(things: &Things, levels: &[u8], number: usize) -> u8
+    requires inside { number < length things.now.spots }
+    requires wire { role_at things.now.plan things.now.marks (spot things.now number) ≡ Some Wire }
     requires whole { length levels.now ≡ length things.now.spots }
-    ensures { result ≡ (reads_by things.now levels.now pos).back }
+    ensures { result ≡ (reads_by things.now levels.now (spot things.now number)).back }
 {
-    power_at(things, levels, pos)
+    let _ = things.count();
+    levels[number]
 }
 
-/// What a place shows: a wire its power, every other component its value.
-pub(crate) fn shown_by(things: &Things, levels: &[u8], cells: &Cells, pos: Pos) -> u8
+/// What the thing of a number shows: a wire its power, every other component its value.
+pub(crate) fn shown(
+    things: &Things,
+    wiring: &Wiring,
+    levels: &[u8],
+    cells: &Cells,
+    number: usize,
+) -> u8
+    requires inside { number < length things.now.spots }
+    requires wired { IsWired things.now wiring.now }
     requires whole { length levels.now ≡ length things.now.spots }
-    ensures { result ≡ seen_at (role_at things.now.plan things.now.marks pos) (reads_by things.now levels.now) pos (held things.now cells.now.cells nothing pos) }
+    ensures { result ≡ seen_at (role_at things.now.plan things.now.marks (spot things.now number)) (reads_by things.now levels.now) (spot things.now number) (cell_of cells.now.cells number) }
 {
-    match things.role(pos) {
-        Some(Component::Wire) => wire_shows(things, levels, pos),
-        Some(_) => cell_at(things, cells, pos).value,
+    match role_of(things, wiring, number) {
+        Some(Component::Wire) => wire_shows(things, levels, number),
+        Some(_) => cells.cell(number).value,
         None => 0,
     }
 }

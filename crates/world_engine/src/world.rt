@@ -7,9 +7,9 @@ ghost use Rattle.circuit.specs.Taken.{Takes};
 ghost use Rattle.power_rules.specs.World.{world_circuit};
 
 use crate::bases::level_waves;
-use crate::events::{begin, fire_due, take_click, view_into};
+use crate::events::{begin, fire_due, output_keys, take_click, view_into};
 use crate::stored::stored_cells;
-use build::{Build, ClickRefusal, Marks, OutPlace};
+use build::{Build, ClickRefusal, Marks};
 use cell_queue::Cells;
 use circuit::{Click, Pos};
 use rp_text::NoMemory;
@@ -22,7 +22,8 @@ use wiring::{Things, Wiring};
 #[derive(Drop)]
 pub struct World {
     things: Things,
-    places: Vec<OutPlace>,
+    // What the outputs are found by.
+    outputs: Vec<u32>,
     wiring: Wiring,
     cells: Cells,
     bases: Vec<u8>,
@@ -32,13 +33,13 @@ pub struct World {
 
 impl Model for World {
     ghost use Rattle.world_engine.specs.Running.{Running, seen_as};
-    ghost use Rattle.world_engine.specs.Levels.{IsRunningBy};
+    ghost use Rattle.world_engine.specs.Levels.{IsRunning};
 
     ghost Value = { Running };
 
     ghost view = { λ w. seen_as w.things w.cells.time w.cells.cells };
 
-    ghost invariant = { λ w. IsRunningBy w.things w.wiring w.places.items w.cells w.bases.items w.levels.items w.waves.feeders };
+    ghost invariant = { λ w. IsRunning w.things w.wiring w.outputs.items w.cells w.bases.items w.levels.items w.waves.feeders };
 }
 
 impl World {
@@ -52,7 +53,7 @@ impl World {
         ensures start { IfOk result (λ world. state_in world ≡ start (world_circuit build.now marks.now)) }
     {
         let things = Things::new(alloc, build, marks)?;
-        let places = things.outputs(alloc)?;
+        let outputs = output_keys(alloc, &things)?;
         let mut cells = Cells::new(alloc, stored_cells(alloc, &things)?)?;
         let wiring = Wiring::new(alloc, &things)?;
         let mut bases = vec![in alloc; 0u8; things.count()]?;
@@ -61,7 +62,7 @@ impl World {
         let waves = level_waves(alloc, &things, &wiring, &cells, &bases)?;
         Ok(World {
             things,
-            places,
+            outputs,
             wiring,
             cells,
             bases,
@@ -122,7 +123,7 @@ impl World {
     pub fn output_count(&self) -> usize
         ensures { result ≡ length (world_circuit self.now.plan self.now.marks).shown }
     {
-        self.places.len()
+        self.outputs.len()
     }
 
     /// What the outputs show, in order of places: 0 or 1, and of a wire its power.
@@ -131,6 +132,13 @@ impl World {
         ensures values { into.new ≡ view (world_circuit self.now.plan self.now.marks) (state_in self.now) }
         ensures small { All (λ value. value ≤ 15) into.new }
     {
-        view_into(&self.things, &self.cells, &self.levels, &self.places, into);
+        view_into(
+            &self.things,
+            &self.wiring,
+            &self.cells,
+            &self.levels,
+            &self.outputs,
+            into,
+        );
     }
 }

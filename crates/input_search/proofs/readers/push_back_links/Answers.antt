@@ -3,9 +3,10 @@ use Rattle.std.specs.Prelude.{All}
 use Rattle.std.proofs.lemmas.Result.{on_ok_weaker}
 use Rattle.circuit.specs.declared.Pos.{Pos}
 use Rattle.build.specs.Plan.{Plan, block_at}
-use Rattle.input_search.specs.Taps.{Tap}
+use Rattle.wiring.specs.Taps.{Tap}
 use Rattle.input_search.specs.Links.{From, through}
-use Rattle.input_search.specs.Readers.{IsWired, reader_taps}
+use Rattle.input_search.specs.WireTaps.{IsWireTap}
+use Rattle.wiring.specs.Readers.{reader_taps}
 use Rattle.input_search.proofs.ReaderTaps.{readers_wired, back_through}
 use Rattle.input_search.proofs.readers.push_back_links.Goals as goal
 
@@ -14,8 +15,8 @@ push_through-requires-clause-taps c =
     let b : Plan = c.args.build.now in
     let p : Pos = c.args.reader in
     let is : c.push_reader_taps.new.taps.items ≡ reader_taps b p (block_at b p) = c.in_ok-push_reader_taps.ensures ∙ ap (λ (taps : List Tap). taps ++ reader_taps b p (block_at b p)) c.clear.ensures.items in
-    let Wired : List Tap → Type 0 = All (IsWired b) in
-    subst Wired (sym (c.deref.ensures.value ∙ is)) (readers_wired b p (block_at b p) refl)
+    let Wired : List Tap → Type 0 = All (IsWireTap b) in
+    subst Wired (sym (c.deref.ensures.value ∙ is)) (readers_wired b p)
 
 pub returns : goal.returns
 returns c =

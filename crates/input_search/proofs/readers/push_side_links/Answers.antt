@@ -3,9 +3,10 @@ use Rattle.std.specs.Prelude.{All}
 use Rattle.std.proofs.lemmas.Result.{on_ok_weaker}
 use Rattle.circuit.specs.declared.Pos.{Pos}
 use Rattle.build.specs.Plan.{Plan, block_at}
-use Rattle.input_search.specs.Taps.{Tap}
+use Rattle.wiring.specs.Taps.{Tap}
 use Rattle.input_search.specs.Links.{From, through}
-use Rattle.input_search.specs.Readers.{IsWired, reader_side_taps}
+use Rattle.input_search.specs.WireTaps.{IsWireTap}
+use Rattle.wiring.specs.Readers.{reader_side_taps}
 use Rattle.input_search.proofs.ReaderTaps.{reader_sides_wired, side_through}
 use Rattle.input_search.proofs.readers.push_side_links.Goals as goal
 
@@ -14,7 +15,7 @@ push_through-requires-clause-taps c =
     let b : Plan = c.args.build.now in
     let p : Pos = c.args.reader in
     let is : c.push_reader_side_taps.new.taps.items ≡ reader_side_taps b p (block_at b p) = c.in_ok-push_reader_side_taps.ensures ∙ ap (λ (taps : List Tap). taps ++ reader_side_taps b p (block_at b p)) c.clear.ensures.items in
-    let Wired : List Tap → Type 0 = All (IsWired b) in
+    let Wired : List Tap → Type 0 = All (IsWireTap b) in
     subst Wired (sym (c.deref.ensures.value ∙ is)) (reader_sides_wired b p (block_at b p))
 
 pub returns : goal.returns

@@ -6,7 +6,7 @@ use Rattle.std.proofs.lemmas.List.Elements.{All-weaker}
 use Rattle.circuit.specs.declared.Pos.{Pos}
 use Rattle.build.specs.Plan.{Plan}
 use Rattle.input_search.specs.CellLists.{cells_of, places_of, AreCells}
-use Rattle.input_search.specs.Links.{at_weight, read_by}
+use Rattle.input_search.specs.Links.{at_weight, direct_places}
 use Rattle.input_search.specs.Rows.{row_at, AreBelow, Gathers}
 use Rattle.input_search.specs.Wiring.{wire_place, wire_places}
 use Rattle.input_search.proofs.CellOrder.{cells_within}
@@ -19,13 +19,13 @@ gather-requires c =
     let cells : List ℕ = c.args.wiring.now.cells.items in
     All-weaker (λ i. i < length cells) (λ i. AreBelow (length c.args.linked.now) (row_at c.args.wiring.now.reads i))
     (λ i h. subst (AreBelow (length c.args.linked.now)) (sym (c.requires.wiring.reads.read i h))
-    (subst (λ (n : ℕ). AreBelow n (cells_of b (read_by b (wire_place b cells i)))) (sym c.requires.linked.size) (cells_within b (read_by b (wire_place b cells i)))))
+    (subst (λ (n : ℕ). AreBelow n (cells_of b (direct_places b (wire_place b cells i)))) (sym c.requires.linked.size) (cells_within b (direct_places b (wire_place b cells i)))))
     c.args.wires.now c.requires.wires
 
 pub push_links-requires : goal.push_links-requires
 push_links-requires c =
     let b : Plan = c.args.build.now in
-    let ps : List Pos = flat_map (read_by b) (wire_places b c.args.wiring.now.cells.items c.args.wires.now) in
+    let ps : List Pos = flat_map (direct_places b) (wire_places b c.args.wiring.now.cells.items c.args.wires.now) in
     let gathers : Gathers (flat_map (row_at c.args.wiring.now.reads) c.args.wires.now) c.args.linked.now c.gather.new.met [] c.gather.new.found.items =
     subst (λ (xs : List ℕ). Gathers (flat_map (row_at c.args.wiring.now.reads) c.args.wires.now) c.args.linked.now c.gather.new.met xs c.gather.new.found.items) c.clear.ensures.items c.in_ok-gather.ensures in
     subst (AreCells b) (sym c.deref.ensures.value)
@@ -35,7 +35,7 @@ push_links-requires c =
 pub returns-clause-links : goal.returns-clause-links
 returns-clause-links c =
     let b : Plan = c.args.build.now in
-    let ps : List Pos = flat_map (read_by b) (wire_places b c.args.wiring.now.cells.items c.args.wires.now) in
+    let ps : List Pos = flat_map (direct_places b) (wire_places b c.args.wiring.now.cells.items c.args.wires.now) in
     let gathers : Gathers (flat_map (row_at c.args.wiring.now.reads) c.args.wires.now) c.args.linked.now c.gather.new.met [] c.gather.new.found.items =
     subst (λ (xs : List ℕ). Gathers (flat_map (row_at c.args.wiring.now.reads) c.args.wires.now) c.args.linked.now c.gather.new.met xs c.gather.new.found.items) c.clear.ensures.items c.in_ok-gather.ensures in
     on_ok_weaker c.push_links.result
@@ -47,7 +47,7 @@ returns-clause-links c =
 pub returns-clause-linked : goal.returns-clause-linked
 returns-clause-linked c =
     let b : Plan = c.args.build.now in
-    let ps : List Pos = flat_map (read_by b) (wire_places b c.args.wiring.now.cells.items c.args.wires.now) in
+    let ps : List Pos = flat_map (direct_places b) (wire_places b c.args.wiring.now.cells.items c.args.wires.now) in
     let gathers : Gathers (flat_map (row_at c.args.wiring.now.reads) c.args.wires.now) c.args.linked.now c.gather.new.met [] c.gather.new.found.items =
     subst (λ (xs : List ℕ). Gathers (flat_map (row_at c.args.wiring.now.reads) c.args.wires.now) c.args.linked.now c.gather.new.met xs c.gather.new.found.items) c.clear.ensures.items c.in_ok-gather.ensures in
     on_ok_weaker c.push_links.result

@@ -3,7 +3,7 @@ use Rattle.std.specs.Prelude.{Bool, replicate, ◌<◌}
 use Rattle.std.specs.List.{flat_map}
 use Rattle.circuit.specs.declared.Pos.{Pos}
 use Rattle.build.specs.Plan.{Plan}
-use Rattle.input_search.specs.Links.{read_by, with_distance, links_below, wire_links}
+use Rattle.input_search.specs.Links.{direct_places, with_distance, links_below, wire_links}
 use Rattle.input_search.specs.Rows.{Gathers}
 use Rattle.input_search.specs.Wiring.{wire_place, wire_places}
 use Rattle.input_search.proofs.Waves.{IsAt, none_linked, no_links, links_on, at_start, same_distance, at_next}
@@ -35,8 +35,8 @@ loop-distance-preserved c =
     let n : ℕ = c.loop-distance.distance in
     let cells : List ℕ = c.args.wiring.now.cells.items in
     let wires : List ℕ = c.loop-distance.wires.items in
-    let added : c.add_distance.new.links.items ≡ with_distance b n (flat_map (read_by b) (wire_places b cells wires)) c.loop-distance.links.items =
-    c.in_ok-add_distance.ensures.links ∙ ap (λ (xs : List ℕ). with_distance b n (flat_map (read_by b) (wire_places b cells xs)) c.loop-distance.links.items) c.deref-in-loop-distance.ensures.value in
+    let added : c.add_distance.new.links.items ≡ with_distance b n (flat_map (direct_places b) (wire_places b cells wires)) c.loop-distance.links.items =
+    c.in_ok-add_distance.ensures.links ∙ ap (λ (xs : List ℕ). with_distance b n (flat_map (direct_places b) (wire_places b cells xs)) c.loop-distance.links.items) c.deref-in-loop-distance.ensures.value in
     record {
       links = links_on b w n c.loop-distance.links.items c.add_distance.new.links.items c.loop-distance.invariant.links
           (added ∙ same_distance b w c.requires.wire cells c.args.wiring.now.feeders c.args.wiring.now.reads c.requires.wiring n wires c.loop-distance.met c.loop-distance.links.items c.loop-distance.invariant.at);

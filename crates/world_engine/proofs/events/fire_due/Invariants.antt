@@ -1,6 +1,6 @@
 use Rattle.std.proofs.Common.{◌≡◌}
 use Rattle.world_engine.specs.Running.{state_of}
-use Rattle.world_engine.specs.Levels.{AreQuiet, IsPlayingBy}
+use Rattle.world_engine.specs.Levels.{AreQuiet, IsPlaying}
 use Rattle.world_engine.proofs.Due.{FiresFrom, due_count}
 use Rattle.world_engine.proofs.events.fire_due.Given as goal
 
@@ -8,7 +8,7 @@ abbrev pub invariant-loop-number : goal.invariant-loop-number
 invariant-loop-number l = record {
   fired : FiresFrom l.things (state_of l.things l.initial.cells) (state_of l.things l.cells);
   time : l.cells.time ≡ l.initial.cells.time;
-  playing : IsPlayingBy l.things l.wiring l.cells l.bases l.levels l.waves.feeders;
+  playing : IsPlaying l.things l.wiring l.cells l.bases l.levels l.waves.feeders;
   quiet : AreQuiet l.things l.cells.cells l.levels;
 }
 

@@ -5,7 +5,7 @@ use Rattle.circuit.specs.Circuit.{fired_in, attend, put}
 use Rattle.build.specs.Roles.{role_at}
 use Rattle.cell_queue.specs.Held.{Holding, CanFollow, cell_of}
 use Rattle.world_engine.specs.Running.{circuit_of, state_of, spot, IsHolding}
-use Rattle.world_engine.specs.Levels.{AreLevels, IsPlayingBy, OthersQuiet}
+use Rattle.world_engine.specs.Levels.{AreLevels, IsPlaying, OthersQuiet}
 use Rattle.world_engine.proofs.Playing.{inside, component, resting, resting_playing, resting_quiet, fired_can_follow, fires_one, none_due}
 use Rattle.world_engine.proofs.events.fire_next.Goals as goal
 
@@ -16,7 +16,7 @@ returns-in_default-clause-state c = record {
 }
 
 pub returns-in_default-clause-playing : goal.returns-in_default-clause-playing
-returns-in_default-clause-playing c = subst (λ (h : Holding). IsPlayingBy c.args.things.now c.args.wiring.now h c.args.bases.now c.args.levels.now c.args.waves.now.feeders) (sym c.in_default.ensures.taken.0) c.requires.playing
+returns-in_default-clause-playing c = subst (λ (h : Holding). IsPlaying c.args.things.now c.args.wiring.now h c.args.bases.now c.args.levels.now c.args.waves.now.feeders) (sym c.in_default.ensures.taken.0) c.requires.playing
 
 pub fired_from-cell-requires-clause-holding : goal.fired_from-cell-requires-clause-holding
 fired_from-cell-requires-clause-holding c =
@@ -28,30 +28,30 @@ fired_from-cell-requires-clause-right c =
     let r = resting_playing c.args.things.now c.count.ensures.numbered c.args.wiring.now c.args.cells.now c.args.bases.now c.args.levels.now c.args.waves.now.feeders c.in-Some.number c.requires.playing c.in-Some.ensures.taken.0 in
     subst (λ (h : Holding). AreLevels c.args.things.now h.cells c.args.levels.now) (sym c.in-Some.ensures.taken.1) r.solved
 
-pub settle_by-requires-clause-playing : goal.settle_by-requires-clause-playing
-settle_by-requires-clause-playing c =
-    subst (λ (h : Holding). IsPlayingBy c.args.things.now c.args.wiring.now h c.args.bases.now c.args.levels.now c.args.waves.now.feeders) (sym c.in-Some.ensures.taken.1)
+pub settle-requires-clause-playing : goal.settle-requires-clause-playing
+settle-requires-clause-playing c =
+    subst (λ (h : Holding). IsPlaying c.args.things.now c.args.wiring.now h c.args.bases.now c.args.levels.now c.args.waves.now.feeders) (sym c.in-Some.ensures.taken.1)
     (resting_playing c.args.things.now c.count.ensures.numbered c.args.wiring.now c.args.cells.now c.args.bases.now c.args.levels.now c.args.waves.now.feeders c.in-Some.number c.requires.playing c.in-Some.ensures.taken.0)
 
-pub settle_by-requires-clause-quiet : goal.settle_by-requires-clause-quiet
-settle_by-requires-clause-quiet c =
+pub settle-requires-clause-quiet : goal.settle-requires-clause-quiet
+settle-requires-clause-quiet c =
     subst (λ (h : Holding). OthersQuiet c.args.things.now h.cells c.args.levels.now (spot c.args.things.now c.in-Some.number)) (sym c.in-Some.ensures.taken.1)
     (resting_quiet c.args.things.now c.count.ensures.numbered c.args.wiring.now c.args.cells.now c.args.bases.now c.args.levels.now c.args.waves.now.feeders c.in-Some.number c.requires.playing c.in-Some.ensures.taken.0 c.requires.quiet)
 
-pub settle_by-requires-clause-follows : goal.settle_by-requires-clause-follows
-settle_by-requires-clause-follows c =
+pub settle-requires-clause-follows : goal.settle-requires-clause-follows
+settle-requires-clause-follows c =
     let m = c.args.things.now in
     let fired = c.fired_from-cell.ensures.fired ∙ ap (λ (h : Holding). fired_in (circuit_of m) (state_of m h) (spot m c.in-Some.number)) c.in-Some.ensures.taken.1 in
     subst (λ (h : Holding). CanFollow h.time (cell_of h.cells c.in-Some.number) c.fired_from-cell.result) (sym c.in-Some.ensures.taken.1)
     (fired_can_follow m c.count.ensures.numbered c.args.wiring.now c.args.cells.now c.args.bases.now c.args.levels.now c.args.waves.now.feeders c.in-Some.number c.requires.playing c.in-Some.ensures.taken.0 c.fired_from-cell.result fired)
 
-pub settle_by-requires-clause-bounded : goal.settle_by-requires-clause-bounded
-settle_by-requires-clause-bounded c =
+pub settle-requires-clause-bounded : goal.settle-requires-clause-bounded
+settle-requires-clause-bounded c =
     let m = c.args.things.now in
     c.fired_from-cell.ensures.bounded
 
-pub settle_by-requires-clause-idle : goal.settle_by-requires-clause-idle
-settle_by-requires-clause-idle c = λ none.
+pub settle-requires-clause-idle : goal.settle-requires-clause-idle
+settle-requires-clause-idle c = λ none.
     let some = component c.args.things.now c.count.ensures.numbered c.args.wiring.now c.args.cells.now c.args.bases.now c.args.levels.now c.args.waves.now.feeders c.in-Some.number c.requires.playing c.in-Some.ensures.taken.0 in
     let clash : None ≡ Some some.0 = sym none ∙ some.1 in
     absurd (cc)
@@ -61,7 +61,7 @@ returns-clause-state c =
     let m = c.args.things.now in
     let w = c.count.ensures.numbered in
     let fired = c.fired_from-cell.ensures.fired ∙ ap (λ (h : Holding). fired_in (circuit_of m) (state_of m h) (spot m c.in-Some.number)) c.in-Some.ensures.taken.1 in
-    let after = c.settle_by.ensures.settled ∙ ap (λ (h : Holding). attend (circuit_of m) (put (circuit_of m) (state_of m h) (spot m c.in-Some.number) c.fired_from-cell.result)) c.in-Some.ensures.taken.1 in (
+    let after = c.settle.ensures.settled ∙ ap (λ (h : Holding). attend (circuit_of m) (put (circuit_of m) (state_of m h) (spot m c.in-Some.number) c.fired_from-cell.result)) c.in-Some.ensures.taken.1 in (
       inside m w c.args.wiring.now c.args.cells.now c.args.bases.now c.args.levels.now c.args.waves.now.feeders c.in-Some.number c.requires.playing c.in-Some.ensures.taken.0,
-      fires_one m w c.args.wiring.now c.args.cells.now c.args.bases.now c.args.levels.now c.args.waves.now.feeders c.in-Some.number c.requires.playing c.in-Some.ensures.taken.0 c.fired_from-cell.result fired (state_of m c.settle_by.new.cells) after,
+      fires_one m w c.args.wiring.now c.args.cells.now c.args.bases.now c.args.levels.now c.args.waves.now.feeders c.in-Some.number c.requires.playing c.in-Some.ensures.taken.0 c.fired_from-cell.result fired (state_of m c.settle.new.cells) after,
     )

@@ -13,18 +13,18 @@ use Rattle.world_engine.proofs.LevelSteps.{reads-world, levels_are_plain, levels
 use Rattle.world_engine.proofs.Within.{bounded_fired}
 use Rattle.world_engine.proofs.events.fired_from.Goals as goal
 
-pub fired_by-requires-clause-whole : goal.fired_by-requires-clause-whole
-fired_by-requires-clause-whole c = levels_whole c.args.things.now c.args.cells.now.cells c.args.levels.now c.requires.right
+pub fired-requires-clause-whole : goal.fired-requires-clause-whole
+fired-requires-clause-whole c = levels_whole c.args.things.now c.args.cells.now.cells c.args.levels.now c.requires.right
 
-pub fired_by-requires-clause-plain : goal.fired_by-requires-clause-plain
-fired_by-requires-clause-plain c = levels_are_plain c.args.things.now c.count.ensures.numbered c.args.cells.now.cells c.args.levels.now c.requires.holding.within c.requires.right
+pub fired-requires-clause-plain : goal.fired-requires-clause-plain
+fired-requires-clause-plain c = levels_are_plain c.args.things.now c.count.ensures.numbered c.args.cells.now.cells c.args.levels.now c.requires.holding.within c.requires.right
 
 pub returns-clause-fired : goal.returns-clause-fired
 returns-clause-fired c =
     let m = c.args.things.now in
     let h = c.args.cells.now in
     let p = spot m c.args.number in
-    let is = c.fired_by.ensures
+    let is = c.fired.ensures
     ∙ ap (λ (reads : Pos → Readings). fired_at h.time (role_at m.plan m.marks p) (first_at m.plan p) reads p (cell_of h.cells c.args.number))
     (reads-world m c.count.ensures.numbered h.cells c.args.levels.now c.requires.holding.within c.requires.right)
     ∙ ap (λ (x : Cell). fired_at h.time (role_at m.plan m.marks p) (first_at m.plan p) ((circuit_of m).readings (given_by m h.cells)) p x) (sym (held-spot m c.count.ensures.numbered h.cells nothing c.args.number c.requires.inside)) in
@@ -35,7 +35,7 @@ returns-clause-bounded c =
     let m = c.args.things.now in
     let h = c.args.cells.now in
     let p = spot m c.args.number in
-    let is = c.fired_by.ensures
+    let is = c.fired.ensures
     ∙ ap (λ (reads : Pos → Readings). fired_at h.time (role_at m.plan m.marks p) (first_at m.plan p) reads p (cell_of h.cells c.args.number))
     (reads-world m c.count.ensures.numbered h.cells c.args.levels.now c.requires.holding.within c.requires.right)
     ∙ ap (λ (x : Cell). fired_at h.time (role_at m.plan m.marks p) (first_at m.plan p) ((circuit_of m).readings (given_by m h.cells)) p x) (sym (held-spot m c.count.ensures.numbered h.cells nothing c.args.number c.requires.inside)) in

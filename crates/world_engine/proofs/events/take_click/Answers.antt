@@ -5,28 +5,27 @@ use Rattle.circuit.specs.Bounds.{BoundedAt}
 use Rattle.circuit.specs.Circuit.{put, attend, with_value}
 use Rattle.build.specs.Roles.{role_at}
 use Rattle.cell_queue.specs.Held.{CanFollow}
-use Rattle.wiring.specs.Numbers.{held-there}
+use Rattle.wiring.specs.Numbers.{held-there, spot-there}
 use Rattle.wiring.specs.Things.{held, nothing}
 use Rattle.world_engine.specs.Running.{circuit_of, state_of, spot}
-use Rattle.world_engine.proofs.Held.{spot-there}
 use Rattle.world_engine.proofs.Follow.{clicked_follows}
 use Rattle.world_engine.proofs.Playing.{none_after_click}
 use Rattle.world_engine.proofs.Clicking.{refused_nothing, taken_click}
 use Rattle.world_engine.proofs.Within.{bounded_clicked}
 use Rattle.world_engine.proofs.events.take_click.Goals as goal
 
-pub settle_by-requires-clause-follows : goal.settle_by-requires-clause-follows
-settle_by-requires-clause-follows c =
+pub settle-requires-clause-follows : goal.settle-requires-clause-follows
+settle-requires-clause-follows c =
     let at = sym c.number.ensures.found ∙ c.in-Some.is in
     subst (λ (x : Cell). CanFollow c.args.cells.now.time x (with_value c.cell_at-cell.result c.in-Some-clicked.value))
     (c.cell_at-cell.ensures ∙ held-there c.args.things.now c.args.cells.now.cells nothing c.args.pos c.in-Some.number at)
     (clicked_follows c.args.cells.now.time c.cell_at-cell.result c.in-Some-clicked.value)
 
-pub settle_by-requires-clause-quiet : goal.settle_by-requires-clause-quiet
-settle_by-requires-clause-quiet c = record { each = λ p other. c.requires.quiet.each p }
+pub settle-requires-clause-quiet : goal.settle-requires-clause-quiet
+settle-requires-clause-quiet c = record { each = λ p other. c.requires.quiet.each p }
 
-pub settle_by-requires-clause-bounded : goal.settle_by-requires-clause-bounded
-settle_by-requires-clause-bounded c =
+pub settle-requires-clause-bounded : goal.settle-requires-clause-bounded
+settle-requires-clause-bounded c =
     let m = c.args.things.now in
     let w = c.count.ensures.numbered in
     let there = spot-there m w c.args.pos c.in-Some.number (sym c.number.ensures.found ∙ c.in-Some.is) in
@@ -34,8 +33,8 @@ settle_by-requires-clause-bounded c =
     (bounded_clicked m w c.args.cells.now.time c.args.cells.now.cells c.args.pos c.args.click c.in-Some-role.component c.in-Some-clicked.value c.cell_at-cell.result c.requires.playing.holding.within
     (sym c.role.ensures ∙ c.in-Some-role.is) c.cell_at-cell.ensures (sym c.clicked.ensures.value ∙ c.in-Some-clicked.is))
 
-pub settle_by-requires-clause-idle : goal.settle_by-requires-clause-idle
-settle_by-requires-clause-idle c = λ none.
+pub settle-requires-clause-idle : goal.settle-requires-clause-idle
+settle-requires-clause-idle c = λ none.
     let m = c.args.things.now in
     let there = spot-there m c.count.ensures.numbered c.args.pos c.in-Some.number (sym c.number.ensures.found ∙ c.in-Some.is) in
     let some : role_at m.plan m.marks c.args.pos ≡ Some c.in-Some-role.component = sym c.role.ensures ∙ c.in-Some-role.is in
@@ -51,8 +50,8 @@ returns-in-Some-clicked-clause-taken c =
     let w = c.count.ensures.numbered in
     let there = spot-there m w c.args.pos c.in-Some.number (sym c.number.ensures.found ∙ c.in-Some.is) in
     let cell = with_value c.cell_at-cell.result c.in-Some-clicked.value in
-    let settled = c.settle_by.ensures.settled ∙ ap (λ (p : Pos). attend (circuit_of m) (put (circuit_of m) (state_of m c.args.cells.now) p cell)) there.1 in
-    taken_click m c.args.pos c.args.click c.in-Some-role.component c.in-Some-clicked.value c.args.cells.now c.settle_by.new.cells c.cell_at-cell.result
+    let settled = c.settle.ensures.settled ∙ ap (λ (p : Pos). attend (circuit_of m) (put (circuit_of m) (state_of m c.args.cells.now) p cell)) there.1 in
+    taken_click m c.args.pos c.args.click c.in-Some-role.component c.in-Some-clicked.value c.args.cells.now c.settle.new.cells c.cell_at-cell.result
     (sym c.role.ensures ∙ c.in-Some-role.is) c.cell_at-cell.ensures (sym c.clicked.ensures.value ∙ c.in-Some-clicked.is) settled
 
 pub returns-in-Some-clicked-clause-none : goal.returns-in-Some-clicked-clause-none
@@ -61,5 +60,5 @@ returns-in-Some-clicked-clause-none c =
     let w = c.count.ensures.numbered in
     let there = spot-there m w c.args.pos c.in-Some.number (sym c.number.ensures.found ∙ c.in-Some.is) in
     let held_there = c.cell_at-cell.ensures ∙ ap (held m c.args.cells.now.cells nothing) (sym there.1) in
-    none_after_click m w c.args.cells.now c.settle_by.new.cells c.in-Some.number c.in-Some-clicked.value c.settle_by.ensures.playing.holding.whole there.0 c.requires.none
-    (c.settle_by.ensures.settled ∙ ap (λ (x : Cell). attend (circuit_of m) (put (circuit_of m) (state_of m c.args.cells.now) (spot m c.in-Some.number) (with_value x c.in-Some-clicked.value))) held_there)
+    none_after_click m w c.args.cells.now c.settle.new.cells c.in-Some.number c.in-Some-clicked.value c.settle.ensures.playing.holding.whole there.0 c.requires.none
+    (c.settle.ensures.settled ∙ ap (λ (x : Cell). attend (circuit_of m) (put (circuit_of m) (state_of m c.args.cells.now) (spot m c.in-Some.number) (with_value x c.in-Some-clicked.value))) held_there)

@@ -5,9 +5,8 @@ use Rattle.std.proofs.Common.{◌≡◌, List, length, sym, ap, subst, ◌∙◌
 use Rattle.circuit.specs.declared.Cell.{Cell}
 use Rattle.cell_queue.specs.Held.{IsSoon}
 use Rattle.wiring.specs.Things.{state_by}
-use Rattle.world_engine.proofs.Steps.{all-stored}
 use Rattle.world_engine.proofs.Starting.{cells_soon}
-use Rattle.world_engine.proofs.Storing.{stored_all}
+use Rattle.world_engine.proofs.Storing.{stored_all, all-stored}
 use Rattle.world_engine.proofs.stored.stored_cells.Goals as goal
 
 pub returns-clause-stored : goal.returns-clause-stored

@@ -1,6 +1,5 @@
-use Rattle.std.proofs.Common.{◌≡◌, sym, ap, ◌∙◌, subst}
+use Rattle.std.proofs.Common.{◌≡◌, sym, ◌∙◌, subst}
 use Rattle.circuit.specs.declared.Pos.{Pos}
-use Rattle.build.specs.Roles.{role_at}
 use Rattle.cell_queue.specs.Held.{Holding}
 use Rattle.wiring.specs.Things.{spot}
 use Rattle.wiring.specs.Numbers.{spot_number}
@@ -23,7 +22,7 @@ hold-requires-clause-follows c =
     let h = c.args.cells.now in
     let p = spot m c.args.number in
     let there = spot_number m c.count.ensures.numbered c.args.number c.requires.inside in
-    let role = sym (ap (role_at m.plan m.marks) c.spot.ensures) ∙ sym c.role.ensures ∙ c.in-Some.is in
+    let role = sym c.role_of.ensures ∙ c.in-Some.is in
     let is = reading_there m h c.args.levels.now p c.args.number c.in-Some.component c.attended_of-cell.result there role c.attended_of-cell.ensures in
     reading_follows m c.count.ensures.numbered h c.args.levels.now p c.args.number c.attended_of-cell.result there is
 
@@ -33,7 +32,7 @@ returns-clause-attended c =
     let h = c.args.cells.now in
     let p = spot m c.args.number in
     let there = spot_number m c.count.ensures.numbered c.args.number c.requires.inside in
-    let role = sym (ap (role_at m.plan m.marks) c.spot.ensures) ∙ sym c.role.ensures ∙ c.in-Some.is in
+    let role = sym c.role_of.ensures ∙ c.in-Some.is in
     let is = reading_there m h c.args.levels.now p c.args.number c.in-Some.component c.attended_of-cell.result there role c.attended_of-cell.ensures in
     subst (λ (x : Holding). HaveAttended m h.time c.args.levels.now h.cells x.cells (λ (q : Pos). q ≡ p)) (sym c.hold.ensures)
     (attended_set m h.time c.args.levels.now c.count.ensures.numbered h.cells p c.args.number c.attended_of-cell.result c.requires.holding.whole there is)
@@ -44,7 +43,7 @@ returns-clause-holding c =
     let h = c.args.cells.now in
     let p = spot m c.args.number in
     let there = spot_number m c.count.ensures.numbered c.args.number c.requires.inside in
-    let role = sym (ap (role_at m.plan m.marks) c.spot.ensures) ∙ sym c.role.ensures ∙ c.in-Some.is in
+    let role = sym c.role_of.ensures ∙ c.in-Some.is in
     let is = reading_there m h c.args.levels.now p c.args.number c.in-Some.component c.attended_of-cell.result there role c.attended_of-cell.ensures in
     subst (λ (x : Holding). IsHolding m x) (sym c.hold.ensures)
     (reading_holds m h c.args.levels.now c.args.number c.attended_of-cell.result (λ (q : Pos). q ≡ p) c.requires.holding

@@ -1,6 +1,4 @@
 use Rattle.std.proofs.Common.{length, ◌∙◌}
-use Rattle.build.specs.Plan.{in_box}
-use Rattle.wiring.specs.Numbers.{spot_inside}
 use Rattle.wiring.proofs.LevelLaws.{back_below, side_below, below_as}
 use Rattle.world_engine.proofs.ToldSteps.{read_is}
 use Rattle.world_engine.proofs.told.reads_of.Goals as goal
@@ -15,11 +13,8 @@ row_level-side-requires c =
     let m = c.args.things.now in
     below_as (length m.spots) (length c.args.levels.now) c.args.wiring.now.side c.args.number c.side.result.now (side_below m c.count.ensures.numbered c.args.wiring.now c.requires.wired) c.side.ensures c.requires.whole
 
-pub strengthened-requires : goal.strengthened-requires
-strengthened-requires c = (λ i. in_box (c.build.ensures.value i) (c.spot.ensures i)) ∙ spot_inside c.args.things.now c.count.ensures.numbered c.args.number c.requires.inside
-
 pub returns : goal.returns
 returns c =
     read_is c.args.things.now c.count.ensures.numbered c.args.wiring.now c.requires.wired c.args.levels.now c.requires.plain c.args.number c.requires.inside c.requires.dry
-    c.build.result.now c.spot.result c.back.result.now c.side.result.now c.row_level-back.result c.strengthened.result c.row_level-side.result
-    c.build.ensures.value c.spot.ensures c.back.ensures c.side.ensures c.row_level-back.ensures c.strengthened.ensures c.row_level-side.ensures
+    c.back.result.now c.side.result.now c.row_level-back.result c.strengthened.result c.row_level-side.result
+    c.back.ensures c.side.ensures c.row_level-back.ensures c.strengthened.ensures c.row_level-side.ensures

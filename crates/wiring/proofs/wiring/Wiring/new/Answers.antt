@@ -16,6 +16,6 @@ driven_of-requires-clause-below c =
 
 pub returns : goal.returns
 returns c =
-    let t : Wired = record { back = c.in_ok-back.back; side = c.in_ok-side.side; direct = c.in_ok-direct.direct; feeders = c.in_ok-feeders.feeders; readers = c.in_ok-readers.readers; driven = c.in_ok-driven.driven } in
-    made c.args.things.now c.count-count.ensures.numbered t c.count-count.result c.count-count.ensures.count c.in_ok-back.ensures c.in_ok-side.ensures c.in_ok-direct.ensures c.in_ok-feeders.ensures
+    let t : Wired = record { parts = c.in_ok-parts.parts.items; back = c.in_ok-back.back; side = c.in_ok-side.side; direct = c.in_ok-direct.direct; feeders = c.in_ok-feeders.feeders; readers = c.in_ok-readers.readers; driven = c.in_ok-driven.driven } in
+    made c.args.things.now c.count-count.ensures.numbered t c.count-count.result c.count-count.ensures.count c.in_ok-parts.ensures c.in_ok-back.ensures c.in_ok-side.ensures c.in_ok-direct.ensures c.in_ok-feeders.ensures
     c.in_ok-readers.ensures c.in_ok-driven.ensures

@@ -4,5 +4,5 @@ use Rattle.world_engine.proofs.bases.LevelNetNet.base.Goals as goal
 
 pub returns : goal.returns
 returns c =
-    let m = c.args.self.now.given.things.now in
-    cell-base m (given_by m c.args.self.now.given.cells.now.cells) c.args.self.now.bases.now c.args.self.now.based c.args.cell
+    let m = c.args.self.now.things.now in
+    cell-base m (given_by m c.args.self.now.cells.now.cells) c.args.self.now.bases.now c.args.self.now.based c.args.cell

@@ -7,15 +7,15 @@ use Rattle.world_engine.proofs.bases.LevelNetNet.feeder.Goals as goal
 
 pub bounds-feeders-from : goal.bounds-feeders-from
 bounds-feeders-from c =
-    let m = c.args.self.now.given.things.now in
-    let given = given_by m c.args.self.now.given.cells.now.cells in
+    let m = c.args.self.now.things.now in
+    let given = given_by m c.args.self.now.cells.now.cells in
     let row : length c.feeders.result.now ≡ length ((cell_at (level_cells m given) c.args.cell).feeders) =
     ap (λ (xs : List ℕ). length xs) (c.feeders.ensures ∙ cell-row m given c.args.self.now.wiring.now.feeders c.args.self.now.fed c.args.cell) in
     omega (arith, row, c.requires.in_cell, c.from.ensures)
 
 pub returns : goal.returns
 returns c =
-    let m = c.args.self.now.given.things.now in
-    let given = given_by m c.args.self.now.given.cells.now.cells in
+    let m = c.args.self.now.things.now in
+    let given = given_by m c.args.self.now.cells.now.cells in
     ap (λ (k : ℕ). slice_index c.feeders.result.now k) c.from.ensures
     ∙ ap (λ (xs : List ℕ). slice_index xs c.args.index) (c.feeders.ensures ∙ cell-row m given c.args.self.now.wiring.now.feeders c.args.self.now.fed c.args.cell)

@@ -1,9 +1,0 @@
-use Rattle.std.proofs.Common.{◌≡◌, ◌++◌, take}
-use Rattle.std.specs.List.{flat_map}
-use Rattle.block_table.specs.Facts.{opposite}
-use Rattle.build.specs.Place.{beside, sides}
-use Rattle.input_search.specs.Taps.{strong_taps}
-use Rattle.input_search.proofs.taps.push_strong_taps.Given as goal
-
-abbrev pub invariant-loop-side : goal.invariant-loop-side
-invariant-loop-side l = l.taps.items ≡ l.fn.taps.items ++ flat_map (λ side. strong_taps l.build (beside side l.pos) (opposite side)) (take l.side-index sides)

@@ -1,0 +1,7 @@
+use Rattle.std.proofs.Common.{ap, ◌∙◌}
+use Rattle.build.specs.Plan.{in_box}
+use Rattle.build.specs.Places.{place_inside}
+use Rattle.input_search.proofs.wires.push_read.Goals as goal
+
+pub push_taps_around-requires : goal.push_taps_around-requires
+push_taps_around-requires c = ap (in_box c.args.build.now) c.place.ensures ∙ place_inside c.args.build.now c.args.wire c.requires

@@ -1,9 +1,0 @@
-use Rattle.std.proofs.Common.{sym, ◌∙◌}
-use Rattle.world_engine.specs.Running.{given_by}
-use Rattle.world_engine.specs.WireThings.{length-things}
-use Rattle.world_engine.proofs.wires.WiresNet.cells.Goals as goal
-
-pub returns : goal.returns
-returns c =
-    let m = c.args.self.now.given.things.now in
-    c.count.ensures.count ∙ sym (length-things m (given_by m c.args.self.now.given.cells.now.cells))
