@@ -107,7 +107,7 @@ module _ {K : Type 0} (C : Circuit K) (cost : K → ℕ) (note : List K → List
 
 module _ {K : Type 0} (C : Circuit K) (cost : K → ℕ) (acts : List Act) (spent_before : ℕ) where
   -- Whatever run comes from here, there is one of all acts that ends as it does. So many events came before, and so much was spent.
-  record Behind (events spent : ℕ) (s last : State K) (left : List Step) (order : List (List K)) (rest : List (List ℕ)) (run : Run C s left order rest last) : Type 0 where
+  pub record Behind (events spent : ℕ) (s last : State K) (left : List Step) (order : List (List K)) (rest : List (List ℕ)) (run : Run C s left order rest last) : Type 0 where
     pub views : List (List ℕ)
     pub whole : List (List K)
     pub plays : Plays C acts whole views last

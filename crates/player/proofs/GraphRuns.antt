@@ -54,7 +54,7 @@ step_notes : (noting : Bool) (g : Nodes) (step : Step) (s next : State ℕ) (e1 
     fires_noted noting g noted ≡ noted_of (graph_circuit g) (fires_noted noting g) step s next (step_of g noting s next e1 e2 r1 r2 noted step t)
 step_notes true g (ClickAt pos click) s next e1 e2 r1 r2 noted t = ap (flat_map (node_lines g)) t.2
 step_notes false g (ClickAt pos click) s next e1 e2 r1 r2 noted t = refl
-step_notes true g OneTick s next e1 e2 r1 r2 noted t = ap (flat_map (node_lines g)) (t.2 tt)
+step_notes true g OneTick s next e1 e2 r1 r2 noted t = ap (flat_map (node_lines g)) (t.2 refl)
 step_notes false g OneTick s next e1 e2 r1 r2 noted t = refl
 
 pub steps_on : (g : Nodes) (noting : Bool) (step : Step) (s next : State ℕ) (e1 e2 r1 r2 : ℕ) (noted : List ℕ) → NotesStep g noting step s next e1 e2 r1 r2 noted →

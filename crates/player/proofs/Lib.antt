@@ -1,4 +1,5 @@
 pub mod Going
+pub mod FirePieces
 pub mod Scripts
 mod TextRows
 pub mod WorldRuns

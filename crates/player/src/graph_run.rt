@@ -1,6 +1,6 @@
 //! Plays a graph.
 
-ghost use Rattle.std.specs.Prelude.{◌≡◌, ◌≤◌, IsTrue, IfOk, OnOk, OnErr};
+ghost use Rattle.std.specs.Prelude.{◌≡◌, ◌≤◌, true, false, IsTrue, IfOk, OnErr};
 ghost use Rattle.rp_io.specs.Causes.{HasCause};
 ghost use Rattle.circuit.specs.Taken.{EachActTaken};
 ghost use Rattle.graph.specs.Graph.{node_count};
@@ -129,8 +129,8 @@ impl<'a> ReadyGraph<'a> {
         steps: &mut Steps<L>,
     ) -> Result<Counts, WriteFault>
         requires { EachActTaken (graph_circuit self.nodes) script.now.acts }
-        ensures done { IfOk result (λ counts. WroteGraphRun self.is_ordered self.nodes self.header script.now.acts counts (O.written out.old) (O.written out.new) steps.old steps.new) }
-        ensures front { OnErr result (WroteGraphRunPrefix self.is_ordered self.nodes self.header script.now.acts (O.written out.old) (O.written out.new) steps.old steps.new) }
+        ensures done { IfOk result (λ counts. WroteGraphRun self.entry.is_ordered self.entry.nodes self.entry.header script.now.acts counts (O.written out.old) (O.written out.new) steps.old steps.new) }
+        ensures front { OnErr result (WroteGraphRunPrefix self.entry.is_ordered self.entry.nodes self.entry.header script.now.acts (O.written out.old) (O.written out.new) steps.old steps.new) }
         ensures cause { HasCause (O.faults out.old) (O.faults out.new) result }
     {
         let ReadyGraph {
@@ -245,7 +245,6 @@ pub fn play_silently<L: Ledger>(
     requires sound { IsSound graph.now.nodes }
     requires taken { EachActTaken (graph_circuit graph.now.nodes) script.now.acts }
     ensures ran { IfOk result (λ end. RanGraph graph.now.nodes script.now.acts end.counts end.values.items (state_in end.machine) steps.old steps.new) }
-    ensures nodes { IfOk result (λ end. end.machine.nodes ≡ graph.now.nodes) }
     ensures nothing { OnErr result (steps.new ≡ steps.old) }
 {
     let Started {
@@ -270,8 +269,7 @@ fn play_graph<L: Ledger>(
 ) -> Counts
     requires started { HasStarted play.old.machine.nodes play.old.machine play.old.counts shown.old }
     requires taken { EachActTaken (graph_circuit play.old.machine.nodes) script.now.acts }
-    ensures nodes { play.new.machine.nodes ≡ play.old.machine.nodes }
-    ensures ran { RanGraph play.old.machine.nodes script.now.acts result shown.new (state_in play.new.machine) steps.old steps.new }
+    ensures { RanGraph play.old.machine.nodes script.now.acts result shown.new (state_in play.new.machine) steps.old steps.new }
 {
     let counts = play.counts;
     play_on(script, play, shown, steps);

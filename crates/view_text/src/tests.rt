@@ -27,20 +27,26 @@ fn shows(
     Ok(())
 }
 
+fn change(rt: &impl Abort, view: &mut LastView, index: usize, value: u8) {
+    assert!(rt; index < view.values().len());
+    assert!(rt; value <= 15);
+    view.set(index, value);
+}
+
 /// A value that takes a second digit moves those behind it, and moves them back.
 #[test]
 fn from_nine_to_ten_and_back(rt: HostRuntime) -> Result<(), Fail> {
     let alloc = rt.alloc();
     let mut view = LastView::new(alloc, &[0, 9, 1])?;
     shows(&rt, alloc, &mut view, 0, b"0 tick 0 9 1\n")?;
-    assert_eq!(rt; view.values().len(), 3);
-    view.set(1, 10);
+    change(&rt, &mut view, 1, 10);
     shows(&rt, alloc, &mut view, 9, b"9 tick 0 10 1\n")?;
-    view.set(1, 15);
-    view.set(2, 0);
+    change(&rt, &mut view, 1, 15);
+    change(&rt, &mut view, 2, 0);
     shows(&rt, alloc, &mut view, 10, b"10 tick 0 15 0\n")?;
-    view.set(1, 3);
+    change(&rt, &mut view, 1, 3);
     shows(&rt, alloc, &mut view, 100_000, b"100000 tick 0 3 0\n")?;
+    assert_eq!(rt; view.values().len(), 3);
     view.set_all(&[1, 3, 12]);
     shows(&rt, alloc, &mut view, 7, b"7 tick 1 3 12\n")?;
     Ok(())
@@ -54,7 +60,7 @@ fn after_a_fault(rt: HostRuntime) -> Result<(), Fail> {
     let mut out = sink(alloc, &[0])?;
     assert_eq!(rt; view.put(&mut out, 0, Cause::Start), Err(WriteFault));
     assert_eq!(rt; out.bytes.items.len(), 0);
-    view.set(0, 0);
+    change(&rt, &mut view, 0, 0);
     shows(&rt, alloc, &mut view, 1, b"1 tick 0\n")
 }
 

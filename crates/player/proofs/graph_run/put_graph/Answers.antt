@@ -1,4 +1,5 @@
-use Rattle.std.proofs.Common.{ℕ, sym, subst, arith}
+use Rattle.std.proofs.Common.{ap, sym, subst, ◌∙◌}
+use Rattle.report.specs.declared.Counts.{Counts}
 use Rattle.graph_machine.specs.Playing.{state_in}
 use Rattle.player.specs.Played.{WroteGraphRun, with_events}
 use Rattle.player.proofs.Going.{on_err_holds}
@@ -20,5 +21,5 @@ returns-clause-done g c =
     let before = g.O.Sink.written c.args.out.now in
     let now = g.O.Sink.written c.put_run.new.out in
     let after = c.put_run.new.player.machine in
-    subst (λ (n : ℕ). WroteGraphRun play.is_ordered nodes c.args.header.now acts (with_events play.counts n) before now c.args.steps.now c.put_run.new.costs) (sym c.events.ensures)
+    subst (λ (counts : Counts). WroteGraphRun play.is_ordered nodes c.args.header.now acts counts before now c.args.steps.now c.put_run.new.costs) (sym (c.with_events.ensures ∙ ap (with_events play.counts) c.events.ensures))
     (whole_text nodes play.counts acts c.requires.ready.has.nodes c.requires.ready.has.links play.is_ordered c.args.header.now before now after.events c.args.steps.now c.put_run.new.costs (state_in after) c.in_ok-put_run.ensures.done)
