@@ -6,7 +6,7 @@ use Rattle.std.proofs.lemmas.List.{length-set, length-map, get_or-map, get_or-se
 use Rattle.circuit.specs.declared.Pos.{Pos}
 use Rattle.circuit.specs.declared.Cell.{Cell}
 use Rattle.circuit.specs.declared.Component.{Component}
-use Rattle.circuit.specs.Component.{out}
+use Rattle.circuit.specs.Component.{out, top}
 use Rattle.circuit.specs.Circuit.{Among, out_at}
 use Rattle.build.specs.Roles.{role_at, base_at}
 use Rattle.build.specs.Place.{same_place}
@@ -29,7 +29,7 @@ use Rattle.wiring.specs.Wired.{Wired, IsWired, base_for, bases_of, direct_row, f
 use Rattle.wiring.proofs.ReadLaws.{source-taps, direct_places-source, source-dry}
 use Rattle.wiring.proofs.LevelLaws.{row-places, direct_things, cells-at, cells-past, length-cells, fed_below}
 use Rattle.wiring.proofs.Reached.{base-or}
-use Rattle.world_engine.specs.Running.{given_by}
+use Rattle.world_engine.specs.Running.{given_by, AreWithin}
 use Rattle.world_engine.specs.Levels.{AreSure, AreSureBelow, AreBasedFrom, Unbased, Rebased, IsPlaying}
 use Rattle.world_engine.proofs.LevelSteps.{given_other}
 
@@ -222,3 +222,8 @@ gives_value m w cells n inside component role =
 
 pub gives_base : (m : Numbered) (cells : List Cell) (n : ℕ) → role_at m.plan m.marks (spot m n) ≡ None → base_at m.plan (spot m n) ≡ given_by m cells (spot m n)
 gives_base m cells n role = out_none (role_at m.plan m.marks (spot m n)) (base_at m.plan (spot m n)) (held m cells nothing (spot m n)) role
+
+pub within_value : (m : Numbered) → IsNumbered m → (cells : List Cell) (n : ℕ) → n < length m.spots → (component : Component) → AreWithin m cells → role_at m.plan m.marks (spot m n) ≡ Some component →
+    (cell : Cell) → cell ≡ cell_of cells n → cell.value ≤ top component
+within_value m w cells n inside component within role cell is =
+    subst (λ (c : Cell). c.value ≤ top component) (held-spot m w cells nothing n inside ∙ sym is) (within (spot m n) component role)

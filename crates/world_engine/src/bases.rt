@@ -32,6 +32,7 @@ pub(crate) fn row_level(levels: &[u8], row: &[u32]) -> u8
 // What the thing of a number gives.
 fn given_of(things: &Things, wiring: &Wiring, cells: &Cells, number: usize) -> u8
     requires inside { number < length things.now.spots }
+    requires within { AreWithin things.now cells.now.cells }
     requires wired { IsWired things.now wiring.now }
     ensures { result ≡ given_by things.now cells.now.cells (spot things.now number) }
 {
@@ -77,6 +78,7 @@ fn put_base(things: &Things, wiring: &Wiring, cells: &Cells, bases: &mut [u8], n
 // Gives a thing its base if it is no wire.
 fn put_given(things: &Things, wiring: &Wiring, cells: &Cells, bases: &mut [u8], number: usize)
     requires inside { number < length things.now.spots }
+    requires within { AreWithin things.now cells.now.cells }
     requires wired { IsWired things.now wiring.now }
     requires whole { length bases.old ≡ length things.now.spots }
     requires sure { AreSureBelow things.now (given_by things.now cells.now.cells) number bases.old }
@@ -91,6 +93,7 @@ fn put_given(things: &Things, wiring: &Wiring, cells: &Cells, bases: &mut [u8], 
 
 // The bases of all things that are no wires.
 fn fill_given(things: &Things, wiring: &Wiring, cells: &Cells, bases: &mut [u8])
+    requires within { AreWithin things.now cells.now.cells }
     requires wired { IsWired things.now wiring.now }
     requires whole { length bases.old ≡ length things.now.spots }
     ensures { AreSure things.now (given_by things.now cells.now.cells) bases.new }

@@ -6,6 +6,7 @@ use Rattle.world_engine.proofs.bases.level_waves.Goals as goal
 
 pub invariant_of-new : goal.invariant_of-new
 invariant_of-new c = record {
+  within = c.requires.within;
   fed = c.requires.wired.feeders;
   based = c.requires.based;
   net_closed = level_closed c.args.things.now c.count.ensures.numbered (given_by c.args.things.now c.args.cells.now.cells);

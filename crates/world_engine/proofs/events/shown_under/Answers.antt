@@ -9,7 +9,7 @@ use Rattle.world_engine.proofs.events.shown_under.Goals as goal
 pub returns-then-key-eq0 : goal.returns-then-key-eq0
 returns-then-key-eq0 c = λ p is. sym (key_none c.args.things.now c.count.ensures.numbered c.args.cells.now.cells p (sym is ∙ omega arith))
 
-pub returns : goal.returns
-returns c = λ p is.
+pub returns-else-key-eq0 : goal.returns-else-key-eq0
+returns-else-key-eq0 c = λ p is.
     let m = c.args.things.now in
     c.shown_of_number.ensures ∙ ap (λ (q : Pos). seen (circuit_of m) (state_by m 0 c.args.cells.now.cells) q) (key_some m c.count.ensures.numbered p c.args.key (omega arith) is)

@@ -6,8 +6,8 @@ use Rattle.world_engine.specs.Running.{shown_of, output_key}
 use Rattle.world_engine.proofs.Shown.{key_below, key_of_output, no_output}
 use Rattle.world_engine.proofs.events.view_into.Goals as goal
 
-pub shown_under-requires : goal.shown_under-requires
-shown_under-requires c =
+pub shown_under-requires-clause-below : goal.shown_under-requires-clause-below
+shown_under-requires-clause-below c =
     let m = c.args.things.now in
     let is = key_of_output m c.args.keys.now c.loop-index.index (get_or c.args.keys.now c.loop-index.index 0) c.requires.outputs c.loop-index-test.true refl in
     subst (λ (k : ℕ). k ≤ length m.spots) (sym is) (key_below m c.count.ensures.numbered (get_or (outputs m.plan m.marks) c.loop-index.index no_output).pos)

@@ -1,7 +1,7 @@
 use Rattle.std.proofs.Common.{ap, ◌∙◌}
 use Rattle.build.specs.Plan.{block_at}
 use Rattle.power_rules.specs.Power.{or_direct, or_far}
-use Rattle.wiring.specs.Parts.{Part}
+use Rattle.wiring.specs.declared.parts.Part.{Part}
 use Rattle.wiring.specs.Things.{spot}
 use Rattle.wiring.proofs.PartLaws.{strengths}
 use Rattle.world_engine.proofs.parts.strengthened.Goals as goal
