@@ -19,7 +19,9 @@ use Rattle.wire_shape.specs.FeederFacts.{feeder-wire}
 use Rattle.wire_shape.specs.WirePlaces.{wire_inside}
 use Rattle.power_rules.specs.Power.{undusted, read_no_dust}
 use Rattle.power_rules.specs.RightWires.{AreRight, source_power}
-use Rattle.wiring.specs.Taps.{Tap, Direct, Wired, back_taps}
+use Rattle.wiring.specs.declared.Tap.{Tap}
+use Rattle.wiring.specs.declared.Tap.TheVariants.{Direct, Wired}
+use Rattle.wiring.specs.Taps.{back_taps}
 use Rattle.input_search.specs.Links.{From, at_weight, among, direct_of, direct_places, wires_in, sources_in, links_below, wire_links}
 use Rattle.input_search.specs.Distances.{Steps, Here, Onward}
 use Rattle.wiring.proofs.Lists.{From_one, From_map, Reached, greatest-flat_map, greatest-among, greatest-most, greatest-reached, among-append_left, among-append_right, among-append, among-flat_map, among-flat_map_back, among-filter, among-map, among-map_back, among-Contains, Contains-among}

@@ -36,7 +36,9 @@ use Rattle.graph.specs.declared.Link.{Link}
 use Rattle.graph.specs.Graph.{Node, node_at}
 use Rattle.graph.specs.Readings.{reading, back_of, readings_of}
 use Rattle.graph.specs.RawNodes.{has_node, kind_of, bare_node, node_places}
-use Rattle.wiring.specs.Taps.{Tap, Direct, Wired, back_taps, side_taps}
+use Rattle.wiring.specs.declared.Tap.{Tap}
+use Rattle.wiring.specs.declared.Tap.TheVariants.{Direct, Wired}
+use Rattle.wiring.specs.Taps.{back_taps, side_taps}
 use Rattle.input_search.specs.Links.{From, wire_links, tap_links, through, back_links_of, side_links_of}
 use Rattle.input_search.specs.Raw.{number_in, link_of, links_of, linked_node, raw}
 use Rattle.wiring.proofs.Lists.{From_one, among-flat_map}

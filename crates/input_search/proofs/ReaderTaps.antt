@@ -1,21 +1,16 @@
 -- The taps of readers: their links are those of the definition, and their wires are wires.
-use Rattle.std.proofs.Common.{◌≡◌, Bool, true, false, List, [], ◌∷◌, refl, ap, inl, inr}
+use Rattle.std.proofs.Common.{◌≡◌, List, [], ◌∷◌, refl, inl, inr}
 use Rattle.std.specs.Prelude.{All, is_some}
-use Rattle.std.specs.List.{flat_map}
 use Rattle.std.proofs.lemmas.Bool.{cases_Bool}
-use Rattle.std.proofs.lemmas.List.Elements.{All-nil, All-cons, All-append}
-use Rattle.block_table.specs.declared.Side.{Side}
-use Rattle.block_table.specs.declared.Side.TheVariants.{Down}
+use Rattle.std.proofs.lemmas.List.Elements.{All-nil, All-cons}
 use Rattle.block_table.specs.declared.Block.{Block}
 use Rattle.block_table.specs.declared.Block.TheVariants.{Wire, Torch, WallTorch, Repeater, Comparator, Lamp, Trapdoor, Note}
-use Rattle.block_table.specs.Facts.{opposite}
 use Rattle.circuit.specs.declared.Pos.{Pos}
 use Rattle.circuit.specs.Circuit.{Among}
-use Rattle.build.specs.Place.{sides}
 use Rattle.build.specs.Plan.{Plan, block_at}
 use Rattle.build.specs.Roles.{direct_at}
-use Rattle.wire_shape.specs.Shape.{across, is_wire}
-use Rattle.wiring.specs.Taps.{Tap, Direct, Wired, back_taps, side_taps}
+use Rattle.wiring.specs.declared.Tap.{Tap}
+use Rattle.wiring.specs.declared.Tap.TheVariants.{Direct, Wired}
 use Rattle.input_search.specs.Links.{through, back_links_of, side_links_of}
 use Rattle.input_search.specs.WireTaps.{IsWireTap}
 use Rattle.wiring.specs.Readers.{reader_taps, reader_side_taps}

@@ -19,7 +19,9 @@ use Rattle.power_rules.specs.Readings.{readings_of}
 use Rattle.power_rules.specs.RightWires.{AreRight, level_with}
 use Rattle.graph.specs.Readings.{direct_back, far_back, back_of}
 use Rattle.graph.specs.RawNodes.{kind_of, unless_direct}
-use Rattle.wiring.specs.Taps.{Tap, Direct, Wired, back_taps, side_taps}
+use Rattle.wiring.specs.declared.Tap.{Tap}
+use Rattle.wiring.specs.declared.Tap.TheVariants.{Direct, Wired}
+use Rattle.wiring.specs.Taps.{back_taps, side_taps}
 use Rattle.input_search.specs.Links.{From, tap_links, through, back_links_of, side_links_of}
 use Rattle.wiring.proofs.Lists.{From_one, among-flat_map, greatest-flat_map}
 use Rattle.wiring.specs.Reads.{given_of, tap_value, is_source, IsTap}

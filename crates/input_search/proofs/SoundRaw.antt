@@ -26,7 +26,9 @@ use Rattle.graph.specs.Graph.{Node, node_at, Lives}
 use Rattle.graph.specs.GraphCircuit.{role_of as node_role}
 use Rattle.graph.specs.RawNodes.{has_node, kind_of, state_of, unless_direct, bare_node, node_places}
 use Rattle.graph.specs.Sound.{top_of, IsKindInRange, can_wait, IsSoundNode, places_of, IsSound}
-use Rattle.wiring.specs.Taps.{Tap, Direct, Wired, back_taps, side_taps}
+use Rattle.wiring.specs.declared.Tap.{Tap}
+use Rattle.wiring.specs.declared.Tap.TheVariants.{Direct, Wired}
+use Rattle.wiring.specs.Taps.{back_taps, side_taps}
 use Rattle.input_search.specs.Links.{From, wire_links, tap_links, through, back_links_of, side_links_of}
 use Rattle.input_search.specs.Raw.{number_in, link_of, links_of, linked_node, raw}
 use Rattle.wiring.proofs.Lists.{From_one, From_map, among-append, among-flat_map, among-map}

@@ -12,7 +12,9 @@ use Rattle.build.specs.Roles.{direct_at}
 use Rattle.wire_shape.specs.Shape.{across}
 use Rattle.wire_shape.specs.Feeders.{feeders}
 pub use Rattle.input_search.specs.declared.search.Origin.{Origin as From}
-use Rattle.wiring.specs.Taps.{Tap, Direct, Wired, back_taps, side_taps}
+use Rattle.wiring.specs.declared.Tap.{Tap}
+use Rattle.wiring.specs.declared.Tap.TheVariants.{Direct, Wired}
+use Rattle.wiring.specs.Taps.{back_taps, side_taps}
 pub use Rattle.wiring.specs.Reads.{direct_of, direct_places}
 
 abbrev pub at_weight : ℕ → Pos → From

@@ -2,7 +2,8 @@
 use Rattle.std.specs.Prelude.{◌≡◌, true}
 use Rattle.build.specs.Plan.{Plan}
 use Rattle.wire_shape.specs.Shape.{wire_at}
-use Rattle.wiring.specs.Taps.{Tap, Direct, Wired}
+use Rattle.wiring.specs.declared.Tap.{Tap}
+use Rattle.wiring.specs.declared.Tap.TheVariants.{Direct, Wired}
 
 -- a tap of a wire is a wire
 abbrev pub IsWireTap : Plan → Tap → Type 0

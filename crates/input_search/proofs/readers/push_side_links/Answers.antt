@@ -3,7 +3,7 @@ use Rattle.std.specs.Prelude.{All}
 use Rattle.std.proofs.lemmas.Result.{on_ok_weaker}
 use Rattle.circuit.specs.declared.Pos.{Pos}
 use Rattle.build.specs.Plan.{Plan, block_at}
-use Rattle.wiring.specs.Taps.{Tap}
+use Rattle.wiring.specs.declared.Tap.{Tap}
 use Rattle.input_search.specs.Links.{From, through}
 use Rattle.input_search.specs.WireTaps.{IsWireTap}
 use Rattle.wiring.specs.Readers.{reader_side_taps}

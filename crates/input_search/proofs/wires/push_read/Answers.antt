@@ -3,5 +3,5 @@ use Rattle.build.specs.Plan.{in_box}
 use Rattle.build.specs.Places.{place_inside}
 use Rattle.input_search.proofs.wires.push_read.Goals as goal
 
-pub push_taps_around-requires : goal.push_taps_around-requires
-push_taps_around-requires c = ap (in_box c.args.build.now) c.place.ensures ∙ place_inside c.args.build.now c.args.wire c.requires
+pub push_sources-requires : goal.push_sources-requires
+push_sources-requires c = ap (in_box c.args.build.now) c.place.ensures ∙ place_inside c.args.build.now c.args.wire c.requires
