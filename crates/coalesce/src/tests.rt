@@ -341,3 +341,41 @@ fn twins_of_twins(rt: HostRuntime) -> Result<(), Fail> {
     assert_left(&rt, rt.alloc(), graph, 3, want)?;
     Ok(())
 }
+
+// The torches 1 and 2 are twins, and so are 2 and 3, but not 1 and 3, whose links go into two
+// groups of the repeater. The lowest goes first: it takes 2, and 3 stays.
+#[test]
+fn lower_nodes_go_first(rt: HostRuntime) -> Result<(), Fail> {
+    let graph = graph_of(
+        rt.alloc(),
+        &[
+            row((0, 0, 0), Kind::Lever, 0),
+            row((1, 0, 0), Kind::Torch, 1),
+            row((2, 0, 0), Kind::Torch, 1),
+            row((3, 0, 0), Kind::Torch, 1),
+            row((4, 0, 0), REPEATER, 0),
+            row((5, 0, 0), Kind::Lamp, 0),
+        ],
+        &[
+            (0, 1, Group::Back, 0),
+            (0, 2, Group::Back, 0),
+            (0, 3, Group::Back, 0),
+            (1, 4, Group::Back, 0),
+            (3, 4, Group::Side, 0),
+            (4, 5, Group::Back, 0),
+        ],
+    )?;
+    let want = b"graph 5 5\n\
+        node 0 lever 0 0 0 0\n\
+        node 1 torch 1 0 0 1\n\
+        node 3 torch 3 0 0 1\n\
+        node 4 repeater 4 0 0 0 delay 1\n\
+        node 5 lamp 5 0 0 0\n\
+        link 0 1 back 0\n\
+        link 0 3 back 0\n\
+        link 1 4 back 0\n\
+        link 3 4 side 0\n\
+        link 4 5 back 0\n";
+    assert_left(&rt, rt.alloc(), graph, 2, want)?;
+    Ok(())
+}

@@ -24,7 +24,7 @@ use Rattle.input_search.proofs.SoundRaw.{raw_sound}
 use Rattle.input_search.proofs.RawWorld.{raw_matches, raw_refines}
 use Rattle.compiler.specs.declared.Keep.{Keep}
 use Rattle.compiler.specs.Compiled.{prunes, Compiled}
-use Rattle.compiler.proofs.ByParts.{step_sound, step_refines}
+use Rattle.compiler.proofs.StepLaws.{step_sound, step_refines}
 
 pub compiled_sound : (b : Plan) → IsWhole b → (marks : List Pos) (keep : Keep) (g : Nodes) → Compiled b marks keep g → IsSound g
 compiled_sound b whole marks keep g c = ran_sound (Step (prunes keep)) (step_sound (prunes keep)) (raw b marks) g (Err (record {})) (raw_sound b whole marks) c.steps

@@ -13,7 +13,7 @@ use clamp_dedup::{Clamp, Dedup};
 use coalesce::Coalesce;
 use constant_fold::Fold;
 use graph::Graph;
-use pass_frame::{Pass, Stable, Then};
+use pass_frame::{Pass, Stable, Then, When};
 use prune::Prune;
 use rp_text::NoMemory;
 use std::alloc::Global;
@@ -65,41 +65,16 @@ fn run_passes(graph: &mut Graph, keep: Keep) -> Result<(), NoMemory>
     ensures done { OnOk result (IsDone (prunes keep) graph.new.nodes) }
 {
     match keep {
-        Keep::Prune => run_pruning(graph),
-        Keep::All => run_keeping(graph),
+        Keep::Prune => run_chain::<true>(graph),
+        Keep::All => run_chain::<false>(graph),
     }
 }
 
-// Runs all passes but Prune until no step is left.
-fn run_keeping(graph: &mut Graph) -> Result<(), NoMemory>
+// Runs the chain of the passes until no step is left, with `Prune` at its end if nodes are pruned.
+fn run_chain<const PRUNES: bool>(graph: &mut Graph) -> Result<(), NoMemory>
     requires { IsSound graph.old.nodes }
-    ensures steps { OnOk result (Reaches (Step false) graph.old.nodes graph.new.nodes) }
-    ensures done { OnOk result (IsDone false graph.new.nodes) }
-{
-    let mut passes = Stable {
-        pass: Then {
-            first: Clamp,
-            second: Then {
-                first: Dedup,
-                second: Then {
-                    first: Unreach,
-                    second: Then {
-                        first: Fold,
-                        second: Coalesce,
-                    },
-                },
-            },
-        },
-    };
-    passes.run(graph)?;
-    Ok(())
-}
-
-// Runs all passes until no step is left.
-fn run_pruning(graph: &mut Graph) -> Result<(), NoMemory>
-    requires { IsSound graph.old.nodes }
-    ensures steps { OnOk result (Reaches (Step true) graph.old.nodes graph.new.nodes) }
-    ensures done { OnOk result (IsDone true graph.new.nodes) }
+    ensures steps { OnOk result (Reaches (Step PRUNES) graph.old.nodes graph.new.nodes) }
+    ensures done { OnOk result (IsDone PRUNES graph.new.nodes) }
 {
     let mut passes = Stable {
         pass: Then {
@@ -112,7 +87,7 @@ fn run_pruning(graph: &mut Graph) -> Result<(), NoMemory>
                         first: Fold,
                         second: Then {
                             first: Coalesce,
-                            second: Prune,
+                            second: When::<Prune, PRUNES> { pass: Prune },
                         },
                     },
                 },

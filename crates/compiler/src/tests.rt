@@ -1,7 +1,7 @@
-//! The raw graphs of small builds, as text. The texts were derived by hand from the rules of nodes, taps
-//! and distances.
+//! The graphs of small builds, as text. The texts were derived by hand from the rules of nodes, taps,
+//! distances and passes.
 
-use crate::raw_graph;
+use crate::{Keep, compile_build, raw_graph};
 use block_table::{Block, parse_state};
 use build::{Build, Marks, NewRefusal};
 use circuit::Pos;
@@ -565,5 +565,32 @@ fn lamp_under_a_wire(rt: HostRuntime) -> Result<(), Fail> {
         link 1 0 back 2\n\
         link 1 0 back 0\n",
     )?;
+    Ok(())
+}
+
+// Folded first, the repeaters are Constants, which are no twins. Were twins coalesced first, one
+// repeater would be left, and the graph would have 3 nodes.
+#[test]
+fn constants_are_folded_before_twins_coalesce(rt: HostRuntime) -> Result<(), Fail> {
+    let blocks = [
+        (at(0, 0, 0), "redstone_lamp[lit=true]"),
+        (at(1, 0, 0), "repeater[facing=east,powered=true]"),
+        (at(2, 0, 0), "redstone_block"),
+        (at(3, 0, 0), "repeater[facing=west,powered=true]"),
+        (at(4, 0, 0), "redstone_lamp[lit=true]"),
+    ];
+    let build = box_of(&rt, rt.alloc(), at(5, 1, 1), &blocks)?;
+    let marks = Marks::new(rt.alloc());
+    let graph = compile_build(rt.alloc(), &build, &marks, Keep::Prune)?;
+    let mut text = Vec::new(rt.alloc());
+    graph.push_text(&mut text)?;
+    let want = b"graph 4 2\n\
+        node 0 lamp 0 0 0 1\n\
+        node 1 constant 1 0 0 15\n\
+        node 3 constant 3 0 0 15\n\
+        node 4 lamp 4 0 0 1\n\
+        link 1 0 back 0\n\
+        link 3 4 back 0\n";
+    assert_eq!(rt; text.as_slice(), want.as_slice());
     Ok(())
 }

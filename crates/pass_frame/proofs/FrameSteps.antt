@@ -96,3 +96,16 @@ pub ran_err : (P : Nodes → Nodes → Type 0) (old new : Nodes) (r : Result Boo
 ran_err P old new (Ok false) e h = absurd (cc)
 ran_err P old new (Ok true) e h = absurd (cc)
 ran_err P old new (Err no_memory) e h = h
+
+-- where a flag is on, a run of the pass takes steps that the flag allows
+abbrev pub WhenOn : Bool → (Nodes → Nodes → Type 0) → Nodes → Nodes → Type 0
+WhenOn on P old new = (on ≡ true) × P old new
+
+reaches_when : (on : Bool) (P : Nodes → Nodes → Type 0) → on ≡ true → {a b : Nodes} → Reaches P a b → Reaches (WhenOn on P) a b
+reaches_when on P e Stays = Stays
+reaches_when on P e (Goes h r) = Goes (e, h) (reaches_when on P e r)
+
+pub when_ran : (on : Bool) (P : Nodes → Nodes → Type 0) (old new : Nodes) (r : Result Bool NoMemory) → on ≡ true → Ran P old r new → Ran (WhenOn on P) old r new
+when_ran on P old new (Ok false) e h = (λ g step. h.0 g step.1, h.1)
+when_ran on P old new (Ok true) e h = (h.0, (e, h.1), reaches_when on P e h.2)
+when_ran on P old new (Err no_memory) e h = reaches_when on P e h

@@ -1,7 +1,7 @@
 //! Passes of the compiler: each makes a graph smaller by steps after which it shows nothing new.
 #![tactic(auto)]
 
-ghost use Rattle.std.specs.Prelude.{◌<◌, ◌⊎◌, OnOk};
+ghost use Rattle.std.specs.Prelude.{◌≡◌, ◌<◌, ◌⊎◌, true, OnOk};
 ghost use Rattle.graph.specs.Graph.{Nodes};
 ghost use Rattle.graph.specs.Sound.{IsSound};
 ghost use Rattle.graph.specs.Refines.{Refines};
@@ -89,4 +89,26 @@ impl<P: Pass> Pass for Stable<P> {
     ghost refines = { P.refines };
 
     ghost falls = { P.falls };
+}
+
+/// Runs a pass where `ON` is true, and else nothing. Its steps are those of the pass, or none.
+#[derive(Drop)]
+pub struct When<P, const ON: bool> {
+    pub pass: P,
+}
+
+impl<P: Pass, const ON: bool> Pass for When<P, ON> {
+    ghost step = { λ old new. (ON ≡ true) × P.step old new };
+
+    fn run(&mut self, graph: &mut Graph) -> Result<bool, NoMemory> {
+        if ON { self.pass.run(graph) } else { Ok(false) }
+    }
+
+    ghost use Rattle.pass_frame.specs.WhenLaws.{when_sound, when_refines, when_falls};
+
+    ghost keeps_sound = { when_sound ON P.step P.keeps_sound };
+
+    ghost refines = { when_refines ON P.step P.refines };
+
+    ghost falls = { when_falls ON P.step P.falls };
 }

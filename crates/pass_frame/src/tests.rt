@@ -61,6 +61,20 @@ fn each_part_runs(rt: HostRuntime) -> Result<(), Fail> {
 }
 
 #[test]
+fn a_pass_runs_where_its_flag_is_on(rt: HostRuntime) -> Result<(), Fail> {
+    let mut on = When::<Idle, true> {
+        pass: Idle { runs: 0 },
+    };
+    let mut off = When::<Idle, false> {
+        pass: Idle { runs: 0 },
+    };
+    assert!(rt; !run_on_nothing(&rt, &mut on)?);
+    assert!(rt; !run_on_nothing(&rt, &mut off)?);
+    assert_eq!(rt; (on.pass.runs, off.pass.runs), (1, 0));
+    Ok(())
+}
+
+#[test]
 fn want_of_memory_ends_a_run(rt: HostRuntime) {
     let mut first = Then {
         first: Starved,

@@ -6,9 +6,8 @@ use Rattle.compiler.specs.Compiled.{prunes}
 use Rattle.compiler.proofs.run_passes.Goals as goal
 
 pub returns-in-Prune-clause-done : goal.returns-in-Prune-clause-done
-returns-in-Prune-clause-done c =
-    subst (λ (keep : Keep). OnOk c.run_pruning.result (IsDone (prunes keep) c.run_pruning.new.graph.nodes)) (sym c.in-Prune.is) c.run_pruning.ensures.done
+returns-in-Prune-clause-done c = subst (λ (keep : Keep). OnOk c.run_chain.result (IsDone (prunes keep) c.run_chain.new.graph.nodes)) (sym c.in-Prune.is) c.run_chain.ensures.done
 
 pub returns-in-All-clause-done : goal.returns-in-All-clause-done
 returns-in-All-clause-done c =
-    subst (λ (keep : Keep). OnOk c.run_keeping.result (IsDone (prunes keep) c.run_keeping.new.graph.nodes)) (sym c.in-All.is) c.run_keeping.ensures.done
+    subst (λ (keep : Keep). OnOk c.run_chain-in-All.result (IsDone (prunes keep) c.run_chain-in-All.new.graph.nodes)) (sym c.in-All.is) c.run_chain-in-All.ensures.done
