@@ -181,7 +181,7 @@ def strong_or_weak(block, to, is_strong):
 class Shape:
     """How the wires of a build are joined, where they point, and what feeds them."""
     def __init__(self, build):
-        self.at = build.at
+        self.at, self.found = build.at, {}
         self.wires = sorted((p for p, block in build.blocks.items() if block.kind == "wire"),
                             key=order_of)
         self.points = {wire: self.pointing(wire) for wire in self.wires}
@@ -224,10 +224,17 @@ class Shape:
 
     def givers(self, place, side):
         """What may give the power that the block at a place reads from its neighbour on a side."""
+        if (place, side) not in self.found:
+            self.found[place, side] = list(self.finding(place, side))
+        return self.found[place, side]
+
+    def finding(self, place, side):
         near = step(place, side)
-        if not self.at(near).solid:
-            return [near] if self.may_give(near, OPPOSITE[side], False) else []
-        return [step(near, s) for s in SIDES if self.may_give(step(near, s), OPPOSITE[s], True)]
+        if self.at(near).solid:
+            yield from (step(near, s) for s in SIDES
+                        if self.may_give(step(near, s), OPPOSITE[s], True))
+        elif self.may_give(near, OPPOSITE[side], False):
+            yield near
 
     def beside(self, place):
         """The neighbours at the sides of a diode, and whether each is a diode turned to it."""

@@ -10,6 +10,9 @@ class World(Circuit):
         for wire, feeders in self.shape.feeders.items():
             for feeder in feeders:
                 self.fed[feeder].append(wire)
+        self.without_dust = {
+            wire: [giver for side in SIDES for giver in self.shape.givers(wire, side)
+                   if not self.shape.is_wire(giver)] for wire in self.shape.wires}
         places = sorted((p for p, block in build.blocks.items()
                          if block.kind in COMPONENTS or p in marks), key=order_of)
         parts = {place: Part(build, place) for place in places}
@@ -23,15 +26,14 @@ class World(Circuit):
         return self.powers[place] if place in self.powers else out(
             self.at(place).kind, self.values[place])
 
-    def read(self, place, side, with_dust=True):
-        return max((self.given(giver) for giver in self.shape.givers(place, side)
-                    if with_dust or not self.shape.is_wire(giver)), default=0)
+    def read(self, place, side):
+        return max((self.given(giver) for giver in self.shape.givers(place, side)), default=0)
 
     def solve(self):
         """The powers of all wires, from the highest down."""
         self.powers = {}
-        base = {wire: max(self.read(wire, side, False) for side in SIDES)
-                for wire in self.shape.wires}
+        base = {wire: max((self.given(giver) for giver in givers), default=0)
+                for wire, givers in self.without_dust.items()}
         self.powers = dict(base)
         levels = [[] for _ in range(16)]
         for wire, power in base.items():
