@@ -1,11 +1,9 @@
-"""What `simulate` and `compile` share: builds and scripts, and the rules of docs/REDSTONE.md on wires,
+"""What the world and the graph share: builds and scripts, and the rules of docs/REDSTONE.md on wires,
 on time and on events.
 
-It takes layout 2 alone, knows few of the inert blocks, and trusts its files: what is wrong in them
-stops it with a traceback.
+It knows few of the inert blocks and trusts its files: what is wrong in them stops it with a traceback.
 """
 import struct
-import sys
 
 SIDES = {"down": (0, -1, 0), "up": (0, 1, 0), "north": (0, 0, -1), "south": (0, 0, 1),
          "west": (-1, 0, 0), "east": (1, 0, 0)}
@@ -27,6 +25,8 @@ KINDS = {"redstone_wire": "wire", "redstone_torch": "torch", "redstone_wall_torc
 ENDINGS = {"_button": "button", "_weighted_pressure_plate": "weighted", "_pressure_plate": "plate",
            "_slab": "slab"}
 SHOWN = ("lamp", "trapdoor", "note")
+# In which order ticks fire that are due together at one priority: as they were added, or by places.
+ORDERS = ("added", "places", "places reversed")
 JOINED = ("wire", "comparator", "torch", "redstone_block", "plate", "weighted", "lever", "button")
 ATTENDING = ("torch", "repeater", "comparator", "lamp", "button", "trapdoor", "note")
 COMPONENTS = ATTENDING + ("lever", "plate", "weighted")
@@ -118,11 +118,15 @@ NOTHING = Block("air")
 class Build:
     def __init__(self, path):
         root = Nbt(open(path, "rb").read()).root
-        assert root["Version"] == 2, "simulate reads layout 2"
+        is_third = "Schematic" in root and "Version" not in root
+        if is_third:
+            root = root["Schematic"]
+        cells = root["Blocks"] if is_third else root
+        assert root["Version"] == (3 if is_third else 2), "another version"
         width, length = root["Width"] & 0xFFFF, root["Length"] & 0xFFFF
-        palette = {number: Block(text) for text, number in root["Palette"].items()}
+        palette = {number: Block(text) for text, number in cells["Palette"].items()}
         self.blocks, number, shift, index = {}, 0, 0, 0
-        for byte in root["BlockData"]:
+        for byte in cells["Data" if is_third else "BlockData"]:
             number |= (byte & 0x7F) << shift
             shift += 7
             if byte >= 0:
@@ -131,9 +135,11 @@ class Build:
                     self.blocks[place] = palette[number]
                 number, shift, index = 0, 0, index + 1
         self.outputs, self.strengths = {}, {}
-        for entity in root.get("BlockEntities", []):
+        for entity in cells.get("BlockEntities", []):
             place = tuple(entity["Pos"])
             kind = self.at(place).kind
+            if is_third:
+                entity = entity.get("Data", {})
             if kind == "comparator":
                 self.outputs[place] = entity.get("OutputSignal", 0)
             if kind == "container":
@@ -175,7 +181,7 @@ def strong_or_weak(block, to, is_strong):
 class Shape:
     """How the wires of a build are joined, where they point, and what feeds them."""
     def __init__(self, build):
-        self.at = build.at
+        self.at, self.found = build.at, {}
         self.wires = sorted((p for p, block in build.blocks.items() if block.kind == "wire"),
                             key=order_of)
         self.points = {wire: self.pointing(wire) for wire in self.wires}
@@ -218,10 +224,17 @@ class Shape:
 
     def givers(self, place, side):
         """What may give the power that the block at a place reads from its neighbour on a side."""
+        if (place, side) not in self.found:
+            self.found[place, side] = list(self.finding(place, side))
+        return self.found[place, side]
+
+    def finding(self, place, side):
         near = step(place, side)
-        if not self.at(near).solid:
-            return [near] if self.may_give(near, OPPOSITE[side], False) else []
-        return [step(near, s) for s in SIDES if self.may_give(step(near, s), OPPOSITE[s], True)]
+        if self.at(near).solid:
+            yield from (step(near, s) for s in SIDES
+                        if self.may_give(step(near, s), OPPOSITE[s], True))
+        elif self.may_give(near, OPPOSITE[side], False):
+            yield near
 
     def beside(self, place):
         """The neighbours at the sides of a diode, and whether each is a diode turned to it."""
@@ -267,11 +280,10 @@ class Circuit:
     """Plays parts, which stand in order under their keys, by the rules of time and events.
 
     What is played on says what a part reads (`back`, `side`, `is_locked`), what it shows (`shown`),
-    for the values as they are, and in which order ticks of one priority fire (`in_order`). It may
-    prepare its readings in `solve`.
+    for the values as they are. It may prepare its readings in `solve`. `order` is one of ORDERS.
     """
-    def __init__(self, parts, waits, outputs, is_reverse):
-        self.parts, self.waits, self.is_reverse = parts, dict(waits), is_reverse
+    def __init__(self, parts, waits, outputs, order):
+        self.parts, self.waits, self.order = parts, dict(waits), order
         self.values = {key: part.value for key, part in parts.items()}
         self.outputs = sorted(outputs, key=lambda key: order_of(parts[key].place))
         self.time = self.events = 0
@@ -327,9 +339,10 @@ class Circuit:
 
     def tick(self):
         self.time += 1
-        keys = self.in_order([key for key in self.waits if self.waits[key][0] == self.time])
-        if self.is_reverse:
-            keys.reverse()
+        keys = [key for key in self.waits if self.waits[key][0] == self.time]
+        if self.order != "added":
+            keys.sort(key=lambda key: order_of(self.parts[key].place),
+                      reverse=self.order == "places reversed")
         for key in sorted(keys, key=lambda key: self.waits[key][1]):
             self.fire(key)
 
@@ -372,15 +385,3 @@ def read_script(path):
             for words in lines if words and not words[0].startswith("#")]
     marks = {tuple(numbers) for word, numbers in acts if word == "mark"}
     return [act for act in acts if act[0] != "mark"], marks
-
-
-def tell(tool, lines, others):
-    """Prints lines; ends with status 1 where the reversed order of due ticks gives other views."""
-    print("\n".join(lines))
-    differing = [number for number, line in enumerate(lines) if others[number] != line]
-    if differing:
-        line = differing[0]
-        if lines[line].startswith("nodes "):
-            print(f"{tool}: another order of due ticks gives other counts", file=sys.stderr)
-        else:
-            sys.exit(f"{tool}: another order of due ticks gives another line {line + 1}")

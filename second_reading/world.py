@@ -1,37 +1,23 @@
-#!/usr/bin/env python3
-"""Plays a build and prints what `redpile world` should print.
-
-simulate BUILD SCRIPT
-
-This is a second reading of the rules of docs/REDSTONE.md and docs/BLOCKS.md, written without a look
-at how the program plays. It is used to write the files *.expected of this folder, so that these say
-what the rules say and not what the program does. It is slow, and it trusts its files (redstone.py).
-
-Ticks that are due together fire by priority, and within one priority in the order of places. The
-whole run is then played again with the reverse order within each priority. If that gives other
-views, a line on standard error says where, and the status is 1: such a build has no one text.
-"""
-import sys
-
-sys.dont_write_bytecode = True
-
-from redstone import (COMPONENTS, SHOWN, SIDES, Build, Circuit, Part, Shape, order_of, out,
-                      read_script, step, tell)
+"""The blocks of a build as a circuit, by the rules of docs/REDSTONE.md on power."""
+from redstone import COMPONENTS, SHOWN, SIDES, Circuit, Part, Shape, order_of, out, step
 
 
 class World(Circuit):
     """The blocks of a build. Components and marked wires stand under their places."""
-    def __init__(self, build, marks, is_reverse):
+    def __init__(self, build, marks, order):
         self.build, self.shape, self.at = build, Shape(build), build.at
         self.fed = {wire: [] for wire in self.shape.wires}
         for wire, feeders in self.shape.feeders.items():
             for feeder in feeders:
                 self.fed[feeder].append(wire)
+        self.without_dust = {
+            wire: [giver for side in SIDES for giver in self.shape.givers(wire, side)
+                   if not self.shape.is_wire(giver)] for wire in self.shape.wires}
         places = sorted((p for p, block in build.blocks.items()
                          if block.kind in COMPONENTS or p in marks), key=order_of)
         parts = {place: Part(build, place) for place in places}
         shown = [p for p in places if self.at(p).kind in SHOWN or p in marks]
-        super().__init__(parts, build.pending, shown, is_reverse)
+        super().__init__(parts, build.pending, shown, order)
 
     def given(self, place):
         """What the block there gives, wherever it gives it."""
@@ -40,15 +26,14 @@ class World(Circuit):
         return self.powers[place] if place in self.powers else out(
             self.at(place).kind, self.values[place])
 
-    def read(self, place, side, with_dust=True):
-        return max((self.given(giver) for giver in self.shape.givers(place, side)
-                    if with_dust or not self.shape.is_wire(giver)), default=0)
+    def read(self, place, side):
+        return max((self.given(giver) for giver in self.shape.givers(place, side)), default=0)
 
     def solve(self):
         """The powers of all wires, from the highest down."""
         self.powers = {}
-        base = {wire: max(self.read(wire, side, False) for side in SIDES)
-                for wire in self.shape.wires}
+        base = {wire: max((self.given(giver) for giver in givers), default=0)
+                for wire, givers in self.without_dust.items()}
         self.powers = dict(base)
         levels = [[] for _ in range(16)]
         for wire, power in base.items():
@@ -86,19 +71,5 @@ class World(Circuit):
         return self.at(place).kind == "repeater" and any(
             self.given(near) for near, is_turned_to in self.shape.beside(place) if is_turned_to)
 
-    def in_order(self, places):
-        return sorted(places, key=order_of)
-
     def shown(self, place):
         return self.powers[place] if place in self.powers else self.values[place]
-
-
-def main():
-    build, (acts, marks) = Build(sys.argv[1]), read_script(sys.argv[2])
-    lines, others = [[*World(build, marks, is_reverse).play(acts), "end"]
-                     for is_reverse in (False, True)]
-    tell("simulate", lines, others)
-
-
-if __name__ == "__main__":
-    main()

@@ -1,28 +1,5 @@
-#!/usr/bin/env python3
-"""Makes the graph of a build and prints what `redpile compile` should print.
-
-compile BUILD SCRIPT [--raw] [--keep] [--run [--graph]]
-
---run plays the graph and prints what `redpile run` should print. --keep leaves out the pass that
-drops nodes, --raw all passes.
-
-This is a second reading of what docs/REDSTONE.md says of compiled graphs, written without a look at
-how the program compiles. It is used to write the files *.compiled and *.run of this folder, so that
-these say what the rules say and not what the program does. It is slow, and it trusts its files
-(redstone.py).
-
-Ticks that are due together fire by priority, and within one priority in the order in which they were
-added, those added at one event by number. The whole run is then played again with the reverse order
-within each priority. If that gives other views, a line on standard error says where, and the status
-is 1: such a graph has no one text. If it gives other counts alone, a line says so.
-"""
-import argparse
-import sys
-
-sys.dont_write_bytecode = True
-
-from redstone import (COMPONENTS, SHOWN, SIDES, Build, Circuit, Part, Shape, order_of, out,
-                      read_script, step, tell)
+"""The compiled graph of a build, by what docs/REDSTONE.md says of compiled graphs, and as a circuit."""
+from redstone import COMPONENTS, SHOWN, SIDES, Circuit, Part, Shape, order_of, out, step
 
 FARTHEST = 15
 CLICKED = ("lever", "button", "plate", "weighted")
@@ -186,7 +163,7 @@ class Graph:
         return has_folded
 
     def foldable(self):
-        stored = Machine(self.nodes, False, is_settled=False)
+        stored = Machine(self.nodes, "added", is_settled=False)
         return [node for number, node in self.nodes.items()
                 if node.kind in FOLDED and node.pending is None
                 and all(self.nodes[link.source].kind == "constant" for link in node.all_links())
@@ -268,11 +245,11 @@ class Graph:
 
 class Machine(Circuit):
     """The nodes of a graph, under their numbers."""
-    def __init__(self, nodes, is_reverse, is_settled=True):
+    def __init__(self, nodes, order, is_settled=True):
         self.is_settled = is_settled
         waits = {number: node.pending for number, node in nodes.items() if node.pending}
         shown = [n for n, node in nodes.items() if node.kind in SHOWN + ("wire",)]
-        super().__init__(nodes, waits, shown, is_reverse)
+        super().__init__(nodes, waits, shown, order)
 
     def settle(self):
         if self.is_settled:
@@ -294,9 +271,6 @@ class Machine(Circuit):
     def is_locked(self, number):
         return self.parts[number].kind == "repeater" and self.side(number) > 0
 
-    def in_order(self, numbers):
-        return numbers
-
     def shown(self, number):
         is_wire = self.parts[number].kind == "wire"
         return self.back(number) if is_wire else self.values[number]
@@ -306,27 +280,3 @@ class Machine(Circuit):
         links = sum(len(node.all_links()) for node in self.parts.values())
         yield f"nodes {len(self.parts)} links {links} events {self.events}"
         yield "end"
-
-
-def main():
-    words = argparse.ArgumentParser()
-    words.add_argument("build")
-    words.add_argument("script")
-    for word in ("--raw", "--keep", "--run", "--graph"):
-        words.add_argument(word, action="store_true")
-    words = words.parse_args()
-    build, (acts, marks) = Build(words.build), read_script(words.script)
-    graph = Graph(build, marks)
-    if not words.raw:
-        graph.compile(words.keep)
-    if not words.run:
-        print("\n".join([*graph.text(), "end"]))
-        return
-    front = list(graph.text()) if words.graph else []
-    lines, others = [front + list(Machine(graph.nodes, is_reverse).run(acts))
-                     for is_reverse in (False, True)]
-    tell("compile", lines, others)
-
-
-if __name__ == "__main__":
-    main()
