@@ -1,5 +1,5 @@
 -- Where a place may fire, and where it may not.
-use Rattle.std.proofs.Common.{◌≡◌, ◌≢◌, ℕ, ◌<◌, ◌≤◌, Bool, true, false, cond, List, length, set, Option, Some, None, Ok, Err, Result, refl, sym, ap, subst, ◌∙◌, inl, inr, arith}
+use Rattle.std.proofs.Common.{◌≡◌, ◌≢◌, ℕ, ◌+◌, ◌<◌, ◌≤◌, Bool, true, false, cond, List, length, set, Option, Some, None, Ok, Err, Result, refl, sym, ap, subst, ◌∙◌, inl, inr, arith}
 use Rattle.std.specs.Prelude.{◌↔◌, ◌⊎◌, slice_index, slice_set}
 use Rattle.std.proofs.lemmas.Bool.{cases_Bool, cases_eq, cases_lt, false≢true}
 use Rattle.std.proofs.lemmas.List.{get_or-set_same, get_or-set_other}
@@ -14,7 +14,7 @@ use Rattle.replay_engine.specs.declared.events.Unlawful.{Unlawful}
 use Rattle.replay_engine.specs.declared.events.Unlawful.TheVariants.{Twice, NotDue, Priority}
 use Rattle.cell_counts.specs.Held.{Holding, cell_of, IsNow, IsFirst, IsLeast, NoneNow}
 use Rattle.replay_engine.specs.Things.{Numbered, IsNumbered, number_at, held, nothing}
-use Rattle.replay_engine.specs.Numbers.{held-there, held-none}
+use Rattle.replay_engine.specs.Numbers.{held-there, held-none, number_cases}
 use Rattle.replay_engine.specs.Running.{circuit_of, state_of, spot, AreIdle, IsUnlawful}
 use Rattle.replay_engine.proofs.Held.{held-set, held-spot, number_role, spot-there}
 
@@ -32,14 +32,14 @@ due_place m w h idle n below now = by_role (role_at m.plan m.marks (spot m n)) r
 pub due_there : (m : Numbered) → IsNumbered m → (h : Holding) → AreIdle m h.cells → (p : Pos) (n : ℕ) → number_at m p ≡ Some n → IsNow h.time (cell_of h.cells n) → IsDue (circuit_of m) (state_of m h) p
 due_there m w h idle p n e now = let t = spot-there m w p n e in subst (IsDue (circuit_of m) (state_of m h)) t.1 (due_place m w h idle n t.0 now)
 
-abbrev the_err : {T : Type 0} → Unlawful → Result T Unlawful
+abbrev pub the_err : {T : Type 0} → Unlawful → Result T Unlawful
 the_err is = Err is
 
 -- what is told is the one reason
-pub told : {T : Type 0} (P : Unlawful → Type 0) (is : Unlawful) → P is → (why : Unlawful) → the_err {T} is ≡ Err why → P why
+pub told : {T : Type 0} (P : Unlawful → Type 0) (is : Unlawful) → P is → (why : Unlawful) → the_err {T = T} is ≡ Err why → P why
 told P is here why e = let same : is ≡ why = cc in subst P same here
 
-abbrev Why : Numbered → Holding → List ℕ → Pos → Unlawful → Type 0
+abbrev pub Why : Numbered → Holding → List ℕ → Pos → Unlawful → Type 0
 Why m h latest p why = IsUnlawful (circuit_of m) (state_of m h) (held m latest 0 p ≡ h.time) p why
 
 pub nothing_there : (m : Numbered) → IsNumbered m → (h : Holding) (latest : List ℕ) (p : Pos) → 0 < h.time → number_at m p ≡ None → Why m h latest p NotDue
@@ -100,3 +100,10 @@ fired_or old new time p is q = (forth (same_place q p) refl, back (same_place q 
       | inl was ↦ is q ∙ ap (λ (b : Bool). cond b time (old q)) s ∙ was
       | inr same ↦ absurd (false≢true (sym s ∙ ap (λ (r : Pos). same_place r p) same ∙ place_itself p))
     ]
+
+-- what fired last at a time has not fired later
+pub never_late : (m : Numbered) → IsNumbered m → (latest : List ℕ) (time : ℕ) → ((n : ℕ) → slice_index latest n ≤ time) → (p : Pos) → held m latest 0 p ≡ time + 1 → ⊥
+never_late m w latest time past p fired = elim (number_cases m p) [
+  | inl none ↦ (let is : held m latest 0 p ≡ 0 = held-none m latest 0 p none in omega arith)
+  | inr n ↦ (let is : held m latest 0 p ≡ slice_index latest n.0 = held-there m latest 0 p n.0 n.1 in let l : slice_index latest n.0 ≤ time = past n.0 in omega arith)
+]

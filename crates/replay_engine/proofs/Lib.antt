@@ -1,5 +1,6 @@
 pub mod Held
 pub mod Firing
+pub mod Seen
 pub mod Numbering
 pub mod Attending
 pub mod Steps

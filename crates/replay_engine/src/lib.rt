@@ -8,8 +8,6 @@ mod near;
 mod replay;
 mod sight;
 mod stored;
-#[cfg(test)]
-mod tests;
 mod things;
 mod wires;
 

@@ -3,4 +3,5 @@ pub mod Texts
 pub mod Following
 pub mod NoBadLine
 pub mod Fronts
+pub mod Numbers
 pub mod Expecting

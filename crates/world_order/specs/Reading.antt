@@ -12,6 +12,7 @@ use Rattle.report.specs.FireLine.{fire_line}
 use Rattle.script.specs.Acts.{Meaning}
 use Rattle.world_order.specs.declared.front.Bad.{Bad}
 use Rattle.world_order.specs.Begun.{Begins}
+use Rattle.world_order.specs.LineForms.{IsNotLine}
 use Rattle.world_order.specs.BadLine.{StartsWith, Names, Due, Firing, Stands, HasKind, is_unended, rank}
 
 -- ---- what is wrong at one place
@@ -26,12 +27,6 @@ pub record IsBadFrom (b : Plan) (script : Meaning) (text : List ℕ) (bad : Bad)
   pub due : Due
   pub stands : Stands b script (take bad.at text) bad.tick due
   pub is : IsKind b script.marks due (drop bad.at text) bad.kind
-
--- the text doesn't go on with this line
-abbrev pub IsNotLine : List ℕ → List ℕ → OrderKind → Type 0
-IsNotLine rest line Short = is_unended rest ≡ true
-IsNotLine rest line Differs = (is_unended rest ≡ false) × (StartsWith rest line → ⊥)
-IsNotLine rest line _ = ⊥
 
 -- the text goes on with a line of a firing that may not stand here, where so much has fired
 abbrev pub IsNotFiring : Circuit Pos → State Pos → (Pos → Type 0) → List ℕ → OrderKind → Type 0

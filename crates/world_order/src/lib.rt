@@ -3,8 +3,9 @@
 
 use report::OrderKind;
 
+mod front;
 pub mod laws;
-pub mod reading;
+mod lines;
 
 /// What a text of an order that was taken has: so many ticks and firings.
 #[derive(Clone, Copy, Debug, PartialEq, Eq)]

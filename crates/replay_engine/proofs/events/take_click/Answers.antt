@@ -56,10 +56,10 @@ returns-in-Some-clicked-clause-taken c =
     (sym c.role.ensures ∙ c.in-Some-role.is) c.cell_at-cell.ensures (sym c.clicked.ensures.value ∙ c.in-Some-clicked.is) settled
 
 pub returns-in-Some-clicked-clause-none : goal.returns-in-Some-clicked-clause-none
-returns-in-Some-clicked-clause-none c =
+returns-in-Some-clicked-clause-none c = λ none.
     let m = c.args.things.now in
     let w = c.count.ensures.numbered in
     let there = spot-there m w c.args.pos c.in-Some.number (sym c.number.ensures.found ∙ c.in-Some.is) in
     let held_there = c.cell_at-cell.ensures ∙ ap (held m c.args.cells.now.cells nothing) (sym there.1) in
-    none_after_click m w c.args.cells.now c.settle.new.cells c.in-Some.number c.in-Some-clicked.value c.settle.ensures.playing.holding.whole there.0 c.requires.none
+    none_after_click m w c.args.cells.now c.settle.new.cells c.in-Some.number c.in-Some-clicked.value c.settle.ensures.playing.holding.whole there.0 none
     (c.settle.ensures.settled ∙ ap (λ (x : Cell). attend (circuit_of m) (put (circuit_of m) (state_of m c.args.cells.now) (spot m c.in-Some.number) (with_value x c.in-Some-clicked.value))) held_there)
