@@ -12,12 +12,12 @@ ghost use Rattle.replay_engine.specs.Things.{held, state_by};
 ghost use Rattle.replay_engine.specs.Running.{circuit_of, state_of, spot, AreIdle, AreStill, OthersStill, ArePowers, IsHolding, IsPlaying, FiresOne, IsUnlawful, shown_of};
 
 use crate::attend::{attend_all, attend_near, attend_near_noted};
-use cell_counts::Cells;
 use crate::near::near_wires;
 use crate::sight::{cell_at, fired, shown};
 use crate::things::Things;
 use crate::wires::{resolve, solve};
 use build::{ClickRefusal, OutPlace};
+use cell_counts::Cells;
 use circuit::{Cell, Click, Pos};
 use wire_net::Waves;
 
@@ -91,13 +91,7 @@ fn fired_from(things: &Things, cells: &Cells, powers: &[u8], pos: Pos) -> Cell
 }
 
 // The thing of a number, which is due first, fires, and all attend.
-fn fire_now(
-    things: &Things,
-    cells: &mut Cells,
-    powers: &mut [u8],
-    waves: &mut Waves,
-    number: usize,
-)
+fn fire_now(things: &Things, cells: &mut Cells, powers: &mut [u8], waves: &mut Waves, number: usize)
     requires playing { IsPlaying things.now cells.old powers.old waves.old.feeders }
     requires still { AreStill things.now cells.old.cells powers.old }
     requires first { IsFirst cells.old number }
@@ -174,7 +168,10 @@ pub(crate) fn is_quiet(things: &Things, cells: &Cells) -> bool
     ensures due { result ≡ false → (key : Pos) × IsDue (circuit_of things.now) (state_of things.now cells.now) key }
 {
     let _ = things.count();
-    cells.least().is_none()
+    match cells.least() {
+        Some(_priority) => false,
+        None => true,
+    }
 }
 
 /// What a place takes of a click, and then all attend.

@@ -6,12 +6,12 @@ ghost use Rattle.circuit.specs.Circuit.{later, view, start, Clicks, IsDue};
 ghost use Rattle.circuit.specs.Taken.{Takes};
 ghost use Rattle.power_rules.specs.World.{world_circuit};
 
-use cell_counts::Cells;
 use crate::events::{Unlawful, begin, fire_at, is_quiet, take_click, view_into};
 use crate::stored::stored_cells;
 use crate::things::Things;
 use crate::wires::new_waves;
 use build::{Build, ClickRefusal, Marks, OutPlace};
+use cell_counts::Cells;
 use circuit::{Click, Pos};
 use rp_text::NoMemory;
 use std::alloc::Global;

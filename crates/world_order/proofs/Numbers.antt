@@ -1,10 +1,10 @@
 -- Words, numbers and lines of firings at the begin of a text.
-use Rattle.std.proofs.Common.{◌≡◌, ◌≢◌, ℕ, zero, suc, ◌+◌, ◌<◌, ◌≤◌, ◌^◌, Bool, true, false, cond, pos, List, [], ◌∷◌, ◌++◌, length, take, drop, length-take, length-append, length-drop, Some, None, refl, sym, ◌∙◌, ap, subst, arith, decimal}
+use Rattle.std.proofs.Common.{◌≡◌, ◌≢◌, ℕ, zero, suc, ◌+◌, ◌-◌, ◌<◌, ◌≤◌, ◌^◌, Bool, true, false, cond, pos, List, [], ◌∷◌, ◌++◌, length, take, drop, length-take, length-append, length-drop, Some, None, refl, sym, ◌∙◌, ap, subst, arith, decimal, inl, inr}
 use Rattle.std.specs.Prelude.{◌==◌, not, codes, nat_eq}
 use Rattle.std.specs.Char.{is_ascii_digit}
 use Rattle.std.specs.List.{list_all, starts_with}
 use Rattle.std.proofs.lemmas.Bool.{cases_Bool, cases_eq, eqb-true, eqb-false, eq-eqb, ne_eqb, not-true, false≢true}
-use Rattle.std.proofs.lemmas.List.{append_assoc, drop-drop}
+use Rattle.std.proofs.lemmas.List.{append_assoc, drop-drop, take_all}
 use Rattle.std.proofs.Math.Seq.{take-append_seam}
 use Rattle.circuit.specs.declared.Pos.{Pos}
 use Rattle.circuit.specs.Circuit.{Each}
@@ -97,6 +97,10 @@ no_number_word end text len other e none n more small is =
     none n small ((λ i. take (w i) (is i)) ∙ take-append_seam (decimal n) (end ∷ more))
 
 -- ---- lines of firings
+
+-- what `&text[n..]` is
+pub rest_from : (n : ℕ) (text : List ℕ) → take (length text - n) (drop n text) ≡ drop n text
+rest_from n text = take_all (length text - n) (drop n text) (omega (arith, length-drop n text))
 
 -- what stands behind `fire `
 pub fire_front : (text : List ℕ) → is_fire text ≡ true → text ≡ codes "fire " ++ drop 5 text

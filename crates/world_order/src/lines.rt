@@ -58,7 +58,9 @@ pub fn line_len(rest: &[u8]) -> usize
     requires { is_unended rest.now ≡ false }
     ensures { IsFirstLine rest.now result }
 {
-    word_len(rest, b'\n') + 1
+    let len = word_len(rest, b'\n');
+    prove!(len < rest.len());
+    len + 1
 }
 
 /// The number that ends at the first such byte, and the place behind that byte.

@@ -33,6 +33,6 @@ returns-clause-none c =
     let q = c.take_click.ensures.playing in
     subst (λ (r : Running). Quiet r (state_in r) → Quiet r (state_in (seen_as m new.time new.cells l))) c.self.view_is
     (λ none.
-      subst (λ (s : State Pos). (key : Pos) → IsDue (circuit_of m) s key → ⊥) (sym (state-seen m new.time new.cells l))
-      (none_due m n new (c.take_click.ensures.none
-      (none_now m n w.cells p.holding.whole p.idle (subst (λ (s : State Pos). (key : Pos) → IsDue (circuit_of m) s key → ⊥) (state-seen m w.cells.time w.cells.cells l) none)))))
+    subst (λ (s : State Pos). (key : Pos) → IsDue (circuit_of m) s key → ⊥) (sym (state-seen m new.time new.cells l))
+    (none_due m n new (c.take_click.ensures.none
+    (none_now m n w.cells p.holding.whole p.idle (subst (λ (s : State Pos). (key : Pos) → IsDue (circuit_of m) s key → ⊥) (state-seen m w.cells.time w.cells.cells l) none)))))

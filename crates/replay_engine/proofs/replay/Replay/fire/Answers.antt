@@ -33,7 +33,7 @@ returns-clause-told c =
     with_items_is w.latest c.fire_at.new.latest (c.fire_at.auto.latest ∙ ap (λ (xs : List ℕ). length xs) c.deref_mut-2.ensures.value ∙ sym w.latest.ok.0) in
     let seen = on_ok_then c.fire_at.result _ ((key : Pos) → HasFired (seen_as m new.time new.cells (with_items w.latest c.fire_at.new.latest).items) key ↔ (HasFired (seen_as m w.cells.time w.cells.cells l) key ⊎ (key ≡ c.args.pos)))
     (λ is. fired_seen m w.cells.time new.time w.cells.cells new.cells l (with_items w.latest c.fire_at.new.latest).items c.args.pos c.fire_at.ensures.time
-      (λ q. ap (λ (xs : List ℕ). held m xs 0 q) next ∙ is q ∙ ap (λ (xs : List ℕ). cond (same_place q c.args.pos) w.cells.time (held m xs 0 q)) c.deref_mut-2.ensures.value))
+    (λ q. ap (λ (xs : List ℕ). held m xs 0 q) next ∙ is q ∙ ap (λ (xs : List ℕ). cond (same_place q c.args.pos) w.cells.time (held m xs 0 q)) c.deref_mut-2.ensures.value))
     c.fire_at.ensures.latest in
     subst (λ (r : Running). OnOk c.fire_at.result ((key : Pos) → HasFired (seen_as m new.time new.cells (with_items w.latest c.fire_at.new.latest).items) key ↔ (HasFired r key ⊎ (key ≡ c.args.pos)))) c.self.view_is seen
 
@@ -55,5 +55,5 @@ returns-clause-same c =
     with_items_is w.latest c.fire_at.new.latest (c.fire_at.auto.latest ∙ ap (λ (xs : List ℕ). length xs) c.deref_mut-2.ensures.value ∙ sym w.latest.ok.0) in
     on_err_both c.fire_at.result (new ≡ w.cells) (c.fire_at.new.latest ≡ c.deref_mut-2.result.now) _
     (λ same same_latest.
-      (λ i. seen_as m (same i).time (same i).cells ((next ∙ same_latest ∙ c.deref_mut-2.ensures.value) i)) ∙ c.self.view_is)
+    (λ i. seen_as m (same i).time (same i).cells ((next ∙ same_latest ∙ c.deref_mut-2.ensures.value) i)) ∙ c.self.view_is)
     c.fire_at.ensures.same c.fire_at.ensures.same_latest
