@@ -1,18 +1,18 @@
 -- Where a place may fire, and where it may not.
-use Rattle.std.proofs.Common.{◌≡◌, ◌≢◌, ℕ, ◌+◌, ◌<◌, ◌≤◌, Bool, true, false, cond, List, length, set, Option, Some, None, Ok, Err, Result, refl, sym, ap, subst, ◌∙◌, inl, inr, arith}
+use Rattle.std.proofs.Common.{◌≡◌, ◌≢◌, ℕ, ◌+◌, ◌<◌, ◌≤◌, Bool, true, false, cond, List, length, Option, Some, None, Err, Result, refl, sym, ap, subst, ◌∙◌, inl, inr, arith}
 use Rattle.std.specs.Prelude.{◌↔◌, ◌⊎◌, slice_index, slice_set}
-use Rattle.std.proofs.lemmas.Bool.{cases_Bool, cases_eq, cases_lt, false≢true}
+use Rattle.std.proofs.lemmas.Bool.{cases_eq, false≢true}
 use Rattle.std.proofs.lemmas.List.{get_or-set_same, get_or-set_other}
 use Rattle.circuit.specs.declared.Pos.{Pos}
 use Rattle.circuit.specs.declared.Cell.{Cell}
 use Rattle.circuit.specs.declared.Component.{Component}
-use Rattle.circuit.specs.Circuit.{State, IsDue}
+use Rattle.circuit.specs.Circuit.{IsDue}
 use Rattle.build.specs.Place.{same_place}
 use Rattle.build.specs.SamePlace.{place_itself, place_one}
 use Rattle.build.specs.Roles.{role_at}
 use Rattle.replay_engine.specs.declared.events.Unlawful.{Unlawful}
 use Rattle.replay_engine.specs.declared.events.Unlawful.TheVariants.{Twice, NotDue, Priority}
-use Rattle.cell_counts.specs.Held.{Holding, cell_of, IsNow, IsFirst, IsLeast, NoneNow}
+use Rattle.cell_counts.specs.Held.{Holding, cell_of, IsNow}
 use Rattle.replay_engine.specs.Things.{Numbered, IsNumbered, number_at, held, nothing}
 use Rattle.replay_engine.specs.Numbers.{held-there, held-none, number_cases}
 use Rattle.replay_engine.specs.Running.{circuit_of, state_of, spot, AreIdle, IsUnlawful}

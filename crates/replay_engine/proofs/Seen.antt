@@ -1,14 +1,13 @@
 -- What is said of a replay's things, said of what it is seen as.
-use Rattle.std.proofs.Common.{◌≡◌, ℕ, ◌+◌, ◌<◌, ◌≤◌, cond, List, Ok, Err, Result, sym, ap, subst, ◌∙◌, inl, inr, slice_index}
+use Rattle.std.proofs.Common.{◌≡◌, ℕ, ◌+◌, ◌≤◌, cond, List, Ok, Err, Result, sym, subst, ◌∙◌, inl, inr, slice_index}
 use Rattle.std.specs.Prelude.{◌↔◌, ◌⊎◌, OnOk, OnErr}
 use Rattle.circuit.specs.declared.Pos.{Pos}
 use Rattle.circuit.specs.declared.Cell.{Cell}
-use Rattle.circuit.specs.Circuit.{State, IsDue}
+use Rattle.circuit.specs.Circuit.{State}
 use Rattle.build.specs.Place.{same_place}
-use Rattle.cell_counts.specs.Held.{Holding}
 use Rattle.replay_engine.specs.declared.events.Unlawful.{Unlawful}
 use Rattle.replay_engine.specs.Things.{Numbered, IsNumbered, held, state_by}
-use Rattle.replay_engine.specs.Running.{Running, circuit_of, state_in, seen_as, HasFired, IsUnlawful}
+use Rattle.replay_engine.specs.Running.{circuit_of, state_in, seen_as, HasFired, IsUnlawful}
 use Rattle.replay_engine.proofs.Held.{state-seen, entry-seen}
 use Rattle.replay_engine.proofs.Firing.{fired_or, never_late}
 

@@ -3,5 +3,4 @@ pub mod Texts
 pub mod Following
 pub mod NoBadLine
 pub mod Fronts
-pub mod Numbers
 pub mod Expecting

@@ -3,9 +3,8 @@
 
 use report::OrderKind;
 
-mod front;
 pub mod laws;
-mod lines;
+pub mod reading;
 
 /// What a text of an order that was taken has: so many ticks and firings.
 #[derive(Clone, Copy, Debug, PartialEq, Eq)]

@@ -1,15 +1,12 @@
-use Rattle.std.proofs.Common.{◌≡◌, ◌≢◌, ◌<◌, ◌≤◌, ℕ, Bool, cond, List, Some, None, length, sym, ap, ◌∙◌, subst, arith, slice_index}
-use Rattle.std.specs.Prelude.{slice_set}
-use Rattle.std.proofs.lemmas.List.{get_or_default}
+use Rattle.std.proofs.Common.{◌≡◌, ◌<◌, ◌≤◌, ℕ, cond, length, sym, ap, ◌∙◌, subst, arith}
 use Rattle.circuit.specs.declared.Pos.{Pos}
 use Rattle.circuit.specs.declared.Cell.{Cell}
-use Rattle.circuit.specs.Circuit.{State}
-use Rattle.cell_counts.specs.Held.{Holding, IsNow, cell_of}
+use Rattle.cell_counts.specs.Held.{IsNow, cell_of}
 use Rattle.build.specs.Place.{same_place}
 use Rattle.replay_engine.specs.Things.{held}
-use Rattle.replay_engine.specs.Running.{circuit_of, state_of, spot, FiresOne}
+use Rattle.replay_engine.specs.Running.{circuit_of, state_of, FiresOne}
 use Rattle.replay_engine.proofs.Held.{spot-there}
-use Rattle.replay_engine.proofs.Firing.{told, Why, nothing_there, fired_there, not_due_there, comes_later, latest-set, past-set}
+use Rattle.replay_engine.proofs.Firing.{told, Why, nothing_there, fired_there, not_due_there, comes_later, latest-set}
 use Rattle.replay_engine.specs.declared.events.Unlawful.TheVariants.{Twice, NotDue, Priority}
 use Rattle.replay_engine.proofs.events.fire_at.Goals as goal
 

@@ -1,11 +1,10 @@
-use Rattle.std.specs.Prelude.{OnOk, IsErrOf, ◌↔◌, ◌⊎◌}
+use Rattle.std.specs.Prelude.{OnOk, ◌↔◌, ◌⊎◌}
 use Rattle.std.specs.Vec.{with_items}
 use Rattle.std.proofs.lemmas.List.{with_items_is}
 use Rattle.std.proofs.Common.{◌≡◌, ℕ, List, length, cond, sym, ap, ◌∙◌, subst}
 use Rattle.circuit.specs.declared.Pos.{Pos}
 use Rattle.circuit.specs.Circuit.{State}
 use Rattle.power_rules.specs.World.{world_circuit}
-use Rattle.replay_engine.specs.declared.events.Unlawful.{Unlawful}
 use Rattle.replay_engine.specs.Running.{Running, circuit_of, state_in, state_of, seen_as, HasFired, FiresOne, IsUnlawful}
 use Rattle.replay_engine.specs.Things.{held}
 use Rattle.build.specs.Place.{same_place}

@@ -1,6 +1,6 @@
 use Rattle.std.specs.Vec.{with_items}
 use Rattle.std.proofs.lemmas.List.{with_items_is}
-use Rattle.std.proofs.Common.{length, ◌≡◌, ◌≤◌, ℕ, List, sym, ap, subst, ◌∙◌, arith, rules, slice_index}
+use Rattle.std.proofs.Common.{length, ◌≡◌, ℕ, List, sym, ap, subst, ◌∙◌, arith, rules, slice_index}
 use Rattle.std.proofs.lemmas.Grind.{common_steps}
 use Rattle.circuit.specs.declared.Pos.{Pos}
 use Rattle.circuit.specs.Circuit.{State, start}
