@@ -1,12 +1,11 @@
 -- The counts of pending ticks, when a cell is put or a tick is taken.
-use Rattle.std.proofs.Common.{◌≡◌, ◌≢◌, ℕ, zero, suc, ◌+◌, ◌*◌, ◌<◌, ◌≤◌, Bool, true, false, cond, List, [], ◌∷◌, length, get_or, set, take, length-take, refl, sym, ap, subst, ◌∙◌, inl, inr, arith}
-use Rattle.std.specs.Prelude.{◌%◌, ◌==◌, ◌&&◌, ◌^◌, All, count_by, sum_by, slice_index, slice_set}
-use Rattle.std.proofs.lemmas.Bool.{cases_Bool, cases_eq, cases_lt, and_parts, eqb-true, eqb-false, eq-eqb, ne_eqb, not-true, false≢true}
-use Rattle.std.proofs.lemmas.List.{get_or-set_same, get_or-set_other, length-set}
-use Rattle.std.proofs.lemmas.List.Sums.{sum_by-set, sum_by-cons, count_by-le-length, count_by_more_yes, count_by_more_no}
+use Rattle.std.proofs.Common.{◌≡◌, ◌≢◌, ℕ, zero, suc, ◌+◌, ◌<◌, ◌≤◌, Bool, true, false, cond, List, [], ◌∷◌, length, get_or, take, length-take, refl, sym, ap, ◌∙◌, inl, inr, arith}
+use Rattle.std.specs.Prelude.{◌==◌, ◌^◌, All, count_by, slice_index}
+use Rattle.std.proofs.lemmas.Bool.{cases_eq, cases_lt, and_parts, eqb-true, eqb-false, eq-eqb, ne_eqb, not-true}
+use Rattle.std.proofs.lemmas.List.Sums.{sum_by-cons, count_by-le-length}
 use Rattle.circuit.specs.declared.Cell.{Cell}
 use Rattle.cell_counts.specs.Held.{nothing}
-use Rattle.cell_counts.specs.Held.{Holding, cell_of, waits, rested, slot_of, counts_at, one_at, IsSoon, IsPending, CanFollow, IsNow, NoneNow, IsFirst, IsLeast, IsHeld}
+use Rattle.cell_counts.specs.Held.{cell_of, waits, slot_of, counts_at, IsSoon, IsPending, IsNow, NoneNow, IsLeast, IsHeld}
 
 -- ---- a cell in its slot
 
@@ -18,53 +17,6 @@ counts_at-waits slot cell h =
 pub counts_at-own : (cell : Cell) → cell.due ≢ 0 → counts_at (slot_of cell.due cell.priority) cell ≡ true
 counts_at-own cell w = rw (ne_eqb cell.due 0 w, eq-eqb (slot_of cell.due cell.priority) (slot_of cell.due cell.priority) refl) refl
 
-pub one_at-idle : (slot : ℕ) (cell : Cell) → cell.due ≡ 0 → one_at slot cell ≡ 0
-one_at-idle slot cell none = rw (eq-eqb cell.due 0 none) refl
-
-pub one_at-other : (slot : ℕ) (cell : Cell) → slot_of cell.due cell.priority ≢ slot → one_at slot cell ≡ 0
-one_at-other slot cell apart = elim (cases_Bool (counts_at slot cell)) [
-  | inl e ↦ absurd (apart (counts_at-waits slot cell e).1)
-  | inr e ↦ ap (λ (b : Bool). cond b 1 0) e
-]
-
-pub one_at-own : (cell : Cell) → cell.due ≢ 0 → one_at (slot_of cell.due cell.priority) cell ≡ 1
-one_at-own cell w = ap (λ (b : Bool). cond b 1 0) (counts_at-own cell w)
-
-one_at-same : (slot : ℕ) (old new : Cell) → new.due ≡ old.due → new.priority ≡ old.priority → one_at slot new ≡ one_at slot old
-one_at-same slot old new due priority = λ i. one_at slot (record { value = 0; due = due i; priority = priority i })
-
--- ---- a list of counts
-
--- one slot is counted up
-pub counted_up : (counts : List ℕ) (cell : Cell) (at : ℕ) → at ≡ slot_of cell.due cell.priority → at < length counts → cell.due ≢ 0 →
-    (slot : ℕ) → slice_index (slice_set counts at (slice_index counts at + 1)) slot ≡ slice_index counts slot + one_at slot cell
-counted_up counts cell at is inside w slot = elim (cases_eq slot at) [
-  | inl e ↦
-      (let own : one_at slot cell ≡ 1 = ap (λ (n : ℕ). one_at n cell) (e ∙ is) ∙ one_at-own cell w in
-      let there : slice_index (slice_set counts at (slice_index counts at + 1)) slot ≡ slice_index counts at + 1 = ap (slice_index (slice_set counts at (slice_index counts at + 1))) e ∙ get_or-set_same counts at (slice_index counts at + 1) 0 inside in
-      let same : slice_index counts slot ≡ slice_index counts at = ap (slice_index counts) e in
-      omega (arith, own, there, same))
-  | inr n ↦
-      (let none : one_at slot cell ≡ 0 = one_at-other slot cell (λ z. n (sym z ∙ sym is)) in
-      let there : slice_index (slice_set counts at (slice_index counts at + 1)) slot ≡ slice_index counts slot = get_or-set_other counts at slot (slice_index counts at + 1) 0 n in
-      omega (arith, none, there))
-]
-
--- one slot is counted down
-pub counted_down : (counts : List ℕ) (cell : Cell) (at less : ℕ) → at ≡ slot_of cell.due cell.priority → at < length counts → cell.due ≢ 0 → less + 1 ≡ slice_index counts at →
-    (slot : ℕ) → slice_index (slice_set counts at less) slot + one_at slot cell ≡ slice_index counts slot
-counted_down counts cell at less is inside w down slot = elim (cases_eq slot at) [
-  | inl e ↦
-      (let own : one_at slot cell ≡ 1 = ap (λ (n : ℕ). one_at n cell) (e ∙ is) ∙ one_at-own cell w in
-      let there : slice_index (slice_set counts at less) slot ≡ less = ap (slice_index (slice_set counts at less)) e ∙ get_or-set_same counts at less 0 inside in
-      let same : slice_index counts slot ≡ slice_index counts at = ap (slice_index counts) e in
-      omega (arith, own, there, same, down))
-  | inr n ↦
-      (let none : one_at slot cell ≡ 0 = one_at-other slot cell (λ z. n (sym z ∙ sym is)) in
-      let there : slice_index (slice_set counts at less) slot ≡ slice_index counts slot = get_or-set_other counts at slot less 0 n in
-      omega (arith, none, there))
-]
-
 -- ---- the cells
 
 pub past_cells : (cells : List Cell) (key : ℕ) → length cells ≤ key → cell_of cells key ≡ nothing
@@ -75,89 +27,11 @@ past_cells (x ∷ cells) (suc key) h = past_cells cells key (omega arith)
 pub inside_where : (cells : List Cell) (key : ℕ) → (cell_of cells key).due ≢ 0 → key < length cells
 inside_where cells key w = elim (cases_lt key (length cells)) [ inl h ↦ h | inr h ↦ absurd (w (ap (λ (c : Cell). c.due) (past_cells cells key h))) ]
 
-pub counted-set : (slot : ℕ) (cells : List Cell) (key : ℕ) (cell : Cell) → key < length cells →
-    count_by (counts_at slot) (set cells key cell) + one_at slot (cell_of cells key) ≡ count_by (counts_at slot) cells + one_at slot cell
-counted-set slot cells key cell inside = sum_by-set (one_at slot) cells key cell nothing inside
-
 pending_idle : (time : ℕ) (cell : Cell) → cell.due ≡ 0 → IsPending time cell
 pending_idle time cell none = record { later = λ w. absurd (w none); soon = omega arith; priority = λ w. absurd (w none) }
 
 pub pending_soon : (time : ℕ) (cell : Cell) → IsSoon time cell → IsPending time cell
 pending_soon time cell soon = record { later = λ w. (let l : time < cell.due = soon.later w in omega arith); soon = soon.soon; priority = soon.priority }
-
-pub pending-set : (time : ℕ) (cells : List Cell) (key : ℕ) (cell : Cell) → ((k : ℕ) → IsPending time (cell_of cells k)) → IsPending time cell → key < length cells →
-    (k : ℕ) → IsPending time (cell_of (set cells key cell) k)
-pending-set time cells key cell all here inside k = elim (cases_eq k key) [
-  | inl e ↦ subst (IsPending time) (sym (ap (cell_of (set cells key cell)) e ∙ get_or-set_same cells key cell nothing inside)) here
-  | inr n ↦ subst (IsPending time) (sym (get_or-set_other cells key k cell nothing n)) (all k)
-]
-
-same_pending : (time : ℕ) (old new : Cell) → new.due ≡ old.due → new.priority ≡ old.priority → IsPending time old → IsPending time new
-same_pending time old new due priority h = record {
-  later = λ w. (let l : time ≤ old.due = h.later (λ z. w (due ∙ z)) in omega (arith, due, l));
-  soon = omega (arith, due, h.soon);
-  priority = λ w. (let l : old.priority ≤ 3 = h.priority (λ z. w (due ∙ z)) in omega (arith, priority, l));
-}
-
-pub follows_pending : (time : ℕ) (old new : Cell) → IsPending time old → CanFollow time old new → IsPending time new
-follows_pending time old new h follows = elim (cases_eq old.due 0) [
-  | inl none ↦ pending_soon time new (follows.soon none)
-  | inr w ↦ (let same = follows.stays w in same_pending time old new same.0 same.1 h)
-]
-
--- a cell without a tick is followed, and the tick of the new one is counted
-pub held_more : (time : ℕ) (counts new : List ℕ) (cells : List Cell) (key : ℕ) (cell : Cell) → IsHeld time counts cells → key < length cells → CanFollow time (cell_of cells key) cell →
-    (cell_of cells key).due ≡ 0 → length new ≡ length counts → ((slot : ℕ) → slot < 64 → slice_index new slot ≡ slice_index counts slot + one_at slot cell) → IsHeld time new (set cells key cell)
-held_more time counts new cells key cell held inside follows none long counted = record {
-  long = long ∙ held.long;
-  counted = λ slot small.
-      (let a = counted-set slot cells key cell inside in
-      let b : one_at slot (cell_of cells key) ≡ 0 = one_at-idle slot (cell_of cells key) none in
-      omega (arith, a, b, counted slot small, held.counted slot small));
-  pending = pending-set time cells key cell held.pending (follows_pending time (cell_of cells key) cell (held.pending key) follows) inside;
-  few = omega (arith, length-set {A = Cell}, held.few);
-}
-
--- a cell with a tick is followed, and keeps it
-pub held_same : (time : ℕ) (counts : List ℕ) (cells : List Cell) (key : ℕ) (cell : Cell) → IsHeld time counts cells → key < length cells → CanFollow time (cell_of cells key) cell →
-    (cell_of cells key).due ≢ 0 → IsHeld time counts (set cells key cell)
-held_same time counts cells key cell held inside follows w = record {
-  long = held.long;
-  counted = λ slot small.
-      (let a = counted-set slot cells key cell inside in
-      let same = follows.stays w in
-      let b : one_at slot cell ≡ one_at slot (cell_of cells key) = one_at-same slot (cell_of cells key) cell same.0 same.1 in
-      omega (arith, a, b, held.counted slot small));
-  pending = pending-set time cells key cell held.pending (follows_pending time (cell_of cells key) cell (held.pending key) follows) inside;
-  few = omega (arith, length-set {A = Cell}, held.few);
-}
-
--- a tick is taken
-pub held_less : (time : ℕ) (counts new : List ℕ) (cells : List Cell) (key : ℕ) → IsHeld time counts cells → key < length cells → length new ≡ length counts →
-    ((slot : ℕ) → slot < 64 → slice_index new slot + one_at slot (cell_of cells key) ≡ slice_index counts slot) → IsHeld time new (set cells key (rested (cell_of cells key)))
-held_less time counts new cells key held inside long counted = record {
-  long = long ∙ held.long;
-  counted = λ slot small.
-      (let a = counted-set slot cells key (rested (cell_of cells key)) inside in
-      let b : one_at slot (rested (cell_of cells key)) ≡ 0 = one_at-idle slot (rested (cell_of cells key)) refl in
-      omega (arith, a, b, counted slot small, held.counted slot small));
-  pending = pending-set time cells key (rested (cell_of cells key)) held.pending (pending_idle time (rested (cell_of cells key)) refl) inside;
-  few = omega (arith, length-set {A = Cell}, held.few);
-}
-
--- time goes on where nothing is due
-pub held_later : (time : ℕ) (counts : List ℕ) (cells : List Cell) → IsHeld time counts cells → ((key : ℕ) → IsNow time (cell_of cells key) → ⊥) → IsHeld (time + 1) counts cells
-held_later time counts cells held none = record {
-  long = held.long;
-  counted = held.counted;
-  pending = λ key. record {
-    later = λ w. (let l : time ≤ (cell_of cells key).due = (held.pending key).later w in
-        let apart : (cell_of cells key).due ≢ time = λ z. none key (record { waits = w; now = z }) in omega arith);
-    soon = (let l = (held.pending key).soon in omega arith);
-    priority = (held.pending key).priority;
-  };
-  few = held.few;
-}
 
 -- ---- what a count says
 
@@ -238,20 +112,6 @@ none_here time counts cells held none other now =
     now_counted time counts cells held other now (none (cell_of cells other).priority (omega arith))
 
 -- ---- all cells, one after another
-
-counted_cell : (slot : ℕ) (cells : List Cell) (i : ℕ) → i < length cells → count_by (counts_at slot) (take (i + 1) cells) ≡ count_by (counts_at slot) (take i cells) + one_at slot (cell_of cells i)
-counted_cell slot cells i inside = by_test (counts_at slot (cell_of cells i)) refl
-  where
-    by_test : (t : Bool) → counts_at slot (cell_of cells i) ≡ t → count_by (counts_at slot) (take (i + 1) cells) ≡ count_by (counts_at slot) (take i cells) + one_at slot (cell_of cells i)
-    by_test true e = let one : one_at slot (cell_of cells i) ≡ 1 = ap one_if e in omega (arith, count_by_more_yes (counts_at slot) cells i nothing inside e, one)
-    by_test false e = let one : one_at slot (cell_of cells i) ≡ 0 = ap one_if e in omega (arith, count_by_more_no (counts_at slot) cells i nothing inside e, one)
-
-pub counted_next : (counts new : List ℕ) (cells : List Cell) (i : ℕ) (cell : Cell) → i < length cells → cell ≡ cell_of cells i →
-    ((slot : ℕ) → slot < 64 → slice_index counts slot ≡ count_by (counts_at slot) (take i cells)) →
-    ((slot : ℕ) → slot < 64 → slice_index new slot ≡ slice_index counts slot + one_at slot cell) →
-    (slot : ℕ) → slot < 64 → slice_index new slot ≡ count_by (counts_at slot) (take (i + 1) cells)
-counted_next counts new cells i cell inside is before now slot small =
-    omega (arith, before slot small, now slot small, counted_cell slot cells i inside, ap (one_at slot) is)
 
 pub counted_few : (counts : List ℕ) (cells : List Cell) (i : ℕ) → length cells ≤ 2 ^ 32 → ((slot : ℕ) → slot < 64 → slice_index counts slot ≡ count_by (counts_at slot) (take i cells)) →
     (slot : ℕ) → slot < 64 → slice_index counts slot ≤ 2 ^ 32

@@ -1,6 +1,6 @@
-use Rattle.std.proofs.Common.{◌≡◌, ◌<◌, ℕ, sym, ap, ◌∙◌, subst, arith, slice_index}
+use Rattle.std.proofs.Common.{◌≡◌, ◌<◌, sym, ap, ◌∙◌, subst, arith, slice_index}
 use Rattle.std.proofs.lemmas.List.{get_or_default}
-use Rattle.cell_counts.specs.Held.{Holding, IsLeast, NoneNow, slot_of}
+use Rattle.cell_counts.specs.Held.{Holding, IsLeast, NoneNow}
 use Rattle.cell_counts.proofs.Counting.{least_here, none_here}
 use Rattle.cell_counts.proofs.cells.Cells.least.Goals as goal
 
