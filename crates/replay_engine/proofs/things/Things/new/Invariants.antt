@@ -1,0 +1,5 @@
+use Rattle.replay_engine.specs.Things.{IsNumberedTo}
+use Rattle.replay_engine.proofs.things.Things.new.Given as goal
+
+abbrev pub invariant-loop-cell : goal.invariant-loop-cell
+invariant-loop-cell l = IsNumberedTo l.build l.cell l.spots.items l.numbers.items

@@ -1,0 +1,153 @@
+//! The things of a build.
+
+ghost use Rattle.std.specs.Prelude.{◌≡◌, ◌≤◌, ◌<◌, ◌+◌, IfOk, OnOk, IfSome, length, slice_index};
+ghost use Rattle.build.specs.Plan.{volume, place_of};
+ghost use Rattle.build.specs.Outputs.{outputs};
+ghost use Rattle.build.specs.Roles.{role_at};
+ghost use Rattle.replay_engine.specs.Things.{IsNumbered, is_thing, number_at, IsNumberedTo, less_one};
+ghost use Rattle.replay_engine.specs.Running.{spot};
+
+use block_table::Block;
+use build::{Build, Marks, OutPlace, outputs};
+use circuit::{Component, Pos};
+use power_rules::component;
+use rp_text::NoMemory;
+use std::alloc::Global;
+use std::marker::Model;
+use wire_shape::is_wire;
+
+/// The things of a build, which are its wires and components. Each has a number, from 0 on in
+/// order of places.
+#[derive(Drop)]
+pub(crate) struct Things {
+    build: Build,
+    marks: Marks,
+    spots: Vec<Pos>,
+    // For each cell of the box 0, or one more than the number of the thing there.
+    numbers: Vec<u32>,
+}
+
+impl Model for Things {
+    ghost use Rattle.replay_engine.specs.Things.{Numbered, IsNumbered};
+
+    ghost Value = { Numbered };
+
+    ghost view = { λ t. record { plan = t.build; marks = t.marks; spots = t.spots.items; numbers = t.numbers.items } };
+
+    ghost invariant = { λ t. IsNumbered (record { plan = t.build; marks = t.marks; spots = t.spots.items; numbers = t.numbers.items }) };
+}
+
+fn is_thing(block: Block) -> bool
+    ensures { result ≡ is_thing block }
+{
+    is_wire(block) || component(block, false).is_some()
+}
+
+// Numbers what stands in one cell more.
+fn number_cell(
+    build: &Build,
+    cell: usize,
+    spots: &mut Vec<Pos>,
+    numbers: &mut Vec<u32>,
+) -> Result<(), NoMemory>
+    requires inside { cell < volume build.now }
+    requires below { IsNumberedTo build.now cell spots.old.items numbers.old.items }
+    ensures { OnOk result (IsNumberedTo build.now (cell + 1) spots.new.items numbers.new.items) }
+{
+    let _ = build.cells();
+    let pos = build.place(cell);
+    if is_thing(build.at(pos)) {
+        spots.push(pos)?;
+        numbers.push(spots.len() as u32)?;
+    } else {
+        numbers.push(0)?;
+    }
+    Ok(())
+}
+
+// The number that a cell has.
+fn number_in(numbers: &[u32], cell: usize) -> Option<usize>
+    requires { cell < length numbers.now }
+    ensures { result ≡ less_one (slice_index numbers.now cell) }
+{
+    let number = numbers[cell];
+    if number == 0 {
+        None
+    } else {
+        Some(number as usize - 1)
+    }
+}
+
+impl Things {
+    pub(crate) fn new(alloc: Global, build: &Build, marks: &Marks) -> Result<Things, NoMemory>
+        ensures plan { IfOk result (λ things. things.plan ≡ build.now) }
+        ensures marks { IfOk result (λ things. things.marks ≡ marks.now) }
+    {
+        let build = build.copy()?;
+        let marks = marks.copy()?;
+        let mut spots = Vec::new(alloc);
+        let mut numbers = Vec::with_capacity(alloc, build.cells())?;
+        for cell in 0..build.cells() {
+            number_cell(&build, cell, &mut spots, &mut numbers)?;
+        }
+        Ok(Things {
+            build,
+            marks,
+            spots,
+            numbers,
+        })
+    }
+
+    /// The build that they are of.
+    pub(crate) fn build(&self) -> &Build
+        ensures value { result.now ≡ self.now.plan }
+        ensures numbered { IsNumbered self.now }
+        ensures few { length self.now.spots ≤ 16777216 }
+    {
+        &self.build
+    }
+
+    /// How many there are.
+    pub(crate) fn count(&self) -> usize
+        ensures count { result ≡ length self.now.spots }
+        ensures few { result ≤ 16777216 }
+        ensures numbered { IsNumbered self.now }
+    {
+        self.spots.len()
+    }
+
+    /// Where the thing of a number stands.
+    pub(crate) fn spot(&self, number: usize) -> Pos
+        requires { number < length self.now.spots }
+        ensures { result ≡ spot self.now number }
+    {
+        self.spots[number]
+    }
+
+    /// The number of the thing at a place, if one stands there.
+    #[tactic(auto, unfolding(crate::specs::Things::number_at))]
+    pub(crate) fn number(&self, pos: Pos) -> Option<usize>
+        ensures found { result ≡ number_at self.now pos }
+        ensures below { IfSome result (λ number. number < length self.now.spots) }
+    {
+        match self.build.cell(pos) {
+            Some(cell) => number_in(&self.numbers, cell),
+            None => None,
+        }
+    }
+
+    /// The component at a place.
+    #[tactic(auto, unfolding(build::specs::Roles::role_at))]
+    pub(crate) fn role(&self, pos: Pos) -> Option<Component>
+        ensures { result ≡ role_at self.now.plan self.now.marks pos }
+    {
+        component(self.build.at(pos), self.marks.contains(pos))
+    }
+
+    /// Where outputs stand, and what they are.
+    pub(crate) fn outputs(&self, alloc: Global) -> Result<Vec<OutPlace>, NoMemory>
+        ensures { IfOk result (λ places. places.items ≡ outputs self.now.plan self.now.marks) }
+    {
+        outputs(alloc, &self.build, &self.marks)
+    }
+}
