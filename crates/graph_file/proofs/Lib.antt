@@ -1,0 +1,2 @@
+pub mod PackedLaw
+pub mod TargetSteps
