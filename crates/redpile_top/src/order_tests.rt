@@ -53,7 +53,8 @@ fn repeater_before_torch(rt: HostRuntime) -> Result<(), Fail> {
 fn shown_order_of_the_and_gate(rt: HostRuntime) -> Result<(), Fail> {
     let alloc = rt.alloc();
     let script = b"use 0 0 0\ntick 4\nuse 2 0 0\ntick 4\nuse 0 0 0\ntick 6\n";
-    let run = b"outputs 1\n1 0 3 lamp\n0 start 0\n0 use 0\nfire 0 1 1\n1 tick 0\n2 tick 0\n3 tick 0\n4 tick 0\n4 use 0\nfire 2 1 1\n5 tick 0\nfire 1 0 2\n6 tick 1\n7 tick 1\n8 tick 1\n8 use 1\nfire 0 1 1\n9 tick 1\nfire 1 0 2\n10 tick 1\n11 tick 1\nfire 1 0 3\n12 tick 0\n13 tick 0\n14 tick 0\nnodes 6 links 5 events 9\nend\n".as_slice();
+    let run =
+        b"outputs 1\n1 0 3 lamp\n0 start 0\n0 use 0\nfire 0 1 1\n1 tick 0\n2 tick 0\n3 tick 0\n4 tick 0\n4 use 0\nfire 2 1 1\n5 tick 0\nfire 1 0 2\n6 tick 1\n7 tick 1\n8 tick 1\n8 use 1\nfire 0 1 1\n9 tick 1\nfire 1 0 2\n10 tick 1\n11 tick 1\nfire 1 0 3\n12 tick 0\n13 tick 0\n14 tick 0\nnodes 6 links 5 events 9\nend\n".as_slice();
     let file = gate_file(alloc)?;
     writes(&rt, &by(alloc, ORDERED, &file, script, NONE)?, run);
     let with_graph = ["run", "a", "b", "--graph", "--keep", "--order"];
@@ -93,12 +94,19 @@ fn comes_in(
 fn pieces(rt: HostRuntime) -> Result<(), Fail> {
     let alloc = rt.alloc();
     let header = b"outputs 1\n2 0 0 lamp\n".as_slice();
-    let graph = b"graph 2 1\nnode 0 lever 0 0 0 0\nnode 1 lamp 2 0 0 0\nlink 0 1 back 0\n".as_slice();
+    let graph =
+        b"graph 2 1\nnode 0 lever 0 0 0 0\nnode 1 lamp 2 0 0 0\nlink 0 1 back 0\n".as_slice();
     comes_in(&rt, alloc, &["world", "a", "b"], 8, header)?;
     comes_in(&rt, alloc, &["run", "a", "b"], 8, header)?;
     comes_in(&rt, alloc, &["run", "a", "b", "--graph"], 9, graph)?;
     comes_in(&rt, alloc, ORDERED, 9, header)?;
-    comes_in(&rt, alloc, &["run", "a", "b", "--graph", "--keep", "--order"], 10, graph)?;
+    comes_in(
+        &rt,
+        alloc,
+        &["run", "a", "b", "--graph", "--keep", "--order"],
+        10,
+        graph,
+    )?;
     comes_in(&rt, alloc, &["compile", "a", "b"], 1, b"")?;
     comes_in(&rt, alloc, &["bench", "1"], 1, b"")
 }
@@ -114,16 +122,22 @@ fn pieces_of_fault_lines(rt: HostRuntime) -> Result<(), Fail> {
         (&[2], b"redpile: block: minecraft:observer[facing=up]"),
     ];
     for (err, line) in rows {
-        let outcome = by(alloc, &["run", "a", "b"], &file, b"", Faults { err, ..NONE })?;
+        let outcome = by(
+            alloc,
+            &["run", "a", "b"],
+            &file,
+            b"",
+            Faults { err, ..NONE },
+        )?;
         assert_eq!(rt; outcome.status, Status::BadBlock);
         assert_eq!(rt; outcome.err.as_slice(), line);
     }
-    let second = Faults {
-        err: &[1],
-        ..NONE
-    };
+    let second = Faults { err: &[1], ..NONE };
     let outcome = by(alloc, &["run", "a", "b"], b"\x1f\x8b", b"", second)?;
     assert_eq!(rt; outcome.status, Status::BadBuild);
-    assert_eq!(rt; outcome.err.as_slice(), b"redpile: build: compressed\n".as_slice());
+    assert_eq!(rt;
+        outcome.err.as_slice(),
+        b"redpile: build: compressed\n".as_slice()
+    );
     Ok(())
 }
