@@ -149,8 +149,8 @@ fn put_ready<O: Sink, L: Ledger>(
     steps: &mut Steps<L>,
 ) -> Result<(), WriteFault>
     requires { EachActTaken (graph_circuit ready.nodes) script.now.acts }
-    ensures done { OnOk result (WroteBehind front.now ready.is_ordered ready.nodes ready.header script.now.acts (O.written out.old) (O.written out.new)) }
-    ensures front { OnErr result (WroteBehindPrefix front.now ready.is_ordered ready.nodes ready.header script.now.acts (O.written out.old) (O.written out.new)) }
+    ensures done { OnOk result (WroteBehind front.now ready.entry.is_ordered ready.entry.nodes ready.entry.header script.now.acts (O.written out.old) (O.written out.new)) }
+    ensures front { OnErr result (WroteBehindPrefix front.now ready.entry.is_ordered ready.entry.nodes ready.entry.header script.now.acts (O.written out.old) (O.written out.new)) }
     ensures cause { HasCause (O.faults out.old) (O.faults out.new) result }
 {
     put_all(out, front)?;
