@@ -1,11 +1,16 @@
--- A graph that has just started, and is ready to be played.
+-- What has just started, and is ready to be played.
 use Rattle.std.specs.Prelude.{◌≡◌, ℕ, ◌≤◌, Bool, List}
+use Rattle.circuit.specs.declared.Pos.{Pos}
 use Rattle.circuit.specs.Circuit.{view, start}
+use Rattle.build.specs.Plan.{Plan}
 use Rattle.graph.specs.Graph.{Nodes, node_count, link_count}
 use Rattle.graph.specs.GraphCircuit.{graph_circuit}
 use Rattle.graph_machine.specs.Playing.{Playing, state_in}
+use Rattle.power_rules.specs.World.{world_circuit}
+use Rattle.world_engine.specs.Running.{Running, state_in as world_state}
 use Rattle.report.specs.declared.Counts.{Counts}
 use Rattle.report.specs.RoomyText.{RoomyText}
+use Rattle.player.specs.Played.{header_of}
 
 -- what is to be played: the graph, the header of its text, and whether its order is shown
 pub record Ready : Type 0 where
@@ -31,4 +36,14 @@ pub record IsStarted (g : Nodes) (to_be_ordered : Bool) (m : Playing) (is_ordere
 -- It has just started, with room for a trailer.
 pub record IsReady (m : Playing) (counts : Counts) (shown : List ℕ) (line : RoomyText) : Type 0 where
   pub has : HasStarted m.nodes m counts shown
+  pub room : 96 ≤ line.room
+
+-- The world of the build has just started, with these marks: the header of its text, the values that its outputs show, and room for a trailer.
+pub record IsStartedWorld (build : Plan) (marked : List Pos) (world : Running) (head shown : List ℕ) (line : RoomyText) : Type 0 where
+  pub plan : world.plan ≡ build
+  pub marks : world.marks ≡ marked
+  pub header : head ≡ header_of world.plan world.marks
+  pub time : world.time ≡ 0
+  pub at_start : world_state world ≡ start (world_circuit world.plan world.marks)
+  pub view : shown ≡ view (world_circuit world.plan world.marks) (world_state world)
   pub room : 96 ≤ line.room

@@ -1,6 +1,6 @@
 //! Plays the blocks of a build.
 
-ghost use Rattle.std.specs.Prelude.{◌≡◌, ◌≤◌, OnOk, OnErr};
+ghost use Rattle.std.specs.Prelude.{◌≡◌, ◌≤◌, IfOk, OnOk, OnErr};
 ghost use Rattle.rp_io.specs.Causes.{HasCause};
 ghost use Rattle.circuit.specs.Circuit.{view, start};
 ghost use Rattle.power_rules.specs.World.{world_circuit};
@@ -9,6 +9,7 @@ ghost use Rattle.script.specs.Clickable.{takes_click, is_wire_at};
 ghost use Rattle.script.specs.Fit.{IsFit};
 ghost use Rattle.player.specs.Ending.{EndsWriting};
 ghost use Rattle.player.specs.Played.{header_of, WroteRun, WroteRunPrefix};
+ghost use Rattle.player.specs.Started.{IsStartedWorld};
 
 use crate::PlayRefusal;
 use crate::lines::{trailer_line, zeros};
@@ -17,6 +18,7 @@ use crate::world_play::WorldPlay;
 use build::{Build, outputs};
 use report::{LineBuf, push_header};
 use rp_io::{Sink, WriteFault};
+use rp_text::NoMemory;
 use script::Script;
 use std::alloc::Global;
 use view_text::LastView;
@@ -45,6 +47,37 @@ fn put_world<O: Sink>(
     put_run(header, script, play, shown, line, out, &mut ())
 }
 
+/// A world that has just started, with all memory that its run takes.
+#[derive(Drop)]
+struct StartedWorld {
+    header: Vec<u8>,
+    play: WorldPlay,
+    shown: LastView,
+    line: LineBuf,
+}
+
+/// Starts the world of a build, with the marks of a script.
+fn start(alloc: Global, build: &Build, script: &Script) -> Result<StartedWorld, NoMemory>
+    requires { IsFit (takes_click build.now) (is_wire_at build.now) script.now }
+    ensures { IfOk result (λ started. IsStartedWorld build.now script.now.marks started.play.world started.header.items started.shown started.line) }
+{
+    let places = outputs(alloc, build, script.marks())?;
+    let mut header = Vec::new(alloc);
+    push_header(&mut header, &places)?;
+    let line = trailer_line(alloc)?;
+    let world = World::start(alloc, build, script.marks())?;
+    let mut values = zeros(alloc, world.output_count())?;
+    let seen = values.as_mut_slice();
+    world.view(seen);
+    let shown = LastView::new(alloc, seen)?;
+    Ok(StartedWorld {
+        header,
+        play: WorldPlay { world, values },
+        shown,
+        line,
+    })
+}
+
 /// Plays a script on the blocks of a build: the header, a line for each view, and the trailer.
 /// All memory is taken before the first write.
 pub fn play_world<O: Sink>(
@@ -57,17 +90,15 @@ pub fn play_world<O: Sink>(
     ensures { EndsWriting (λ done. WroteRun build.now script.now (O.written out.old) (O.written out.new))
         (WroteRunPrefix build.now script.now (O.written out.old) (O.written out.new)) (out.new ≡ out.old) (O.faults out.old) (O.faults out.new) result }
 {
-    let places = outputs(alloc, build, script.marks())?;
-    let mut header = Vec::new(alloc);
-    push_header(&mut header, &places)?;
-    let mut line = trailer_line(alloc)?;
-    let world = World::start(alloc, build, script.marks())?;
-    let mut values = zeros(alloc, world.output_count())?;
-    let seen = values.as_mut_slice();
-    world.view(seen);
-    let mut shown = LastView::new(alloc, seen)?;
-    let mut play = WorldPlay { world, values };
-    match put_world(&header, script, &mut play, &mut shown, &mut line, out) {
+    let mut started = start(alloc, build, script)?;
+    match put_world(
+        &started.header,
+        script,
+        &mut started.play,
+        &mut started.shown,
+        &mut started.line,
+        out,
+    ) {
         Ok(()) => Ok(()),
         Err(WriteFault) => Err(PlayRefusal::WriteFault),
     }
