@@ -1,5 +1,5 @@
 -- What the commands of the compiler write.
-use Rattle.std.proofs.Common.{◌≡◌, ℕ, ◌+◌, Bool, true, false, List, [], ◌∷◌, ◌++◌, map, Option, refl, sym, ap, subst, ◌∙◌, append_assoc}
+use Rattle.std.proofs.Common.{◌≡◌, ℕ, ◌+◌, ◌≤◌, Result, Ok, Err, Bool, true, false, List, [], ◌∷◌, ◌++◌, map, Option, refl, sym, ap, subst, ◌∙◌, append_assoc}
 use Rattle.std.specs.List.{flat_map}
 use Rattle.std.proofs.lemmas.Grind.{flat_map-append}
 use Rattle.circuit.specs.declared.Act.{Act}
@@ -9,7 +9,7 @@ use Rattle.circuit.specs.declared.Step.TheVariants.{Click as ClickAt, Tick as On
 use Rattle.circuit.specs.Circuit.{Circuit, State, start, view}
 use Rattle.circuit.specs.Shows.{Run, Ended, Clicked, Ticked, Plays, steps_of}
 use Rattle.circuit.specs.Taken.{EachActTaken}
-use Rattle.rp_io.specs.Causes.{Wrote, WrotePrefix}
+use Rattle.rp_io.specs.Causes.{Rose, Wrote, WrotePrefix}
 use Rattle.rp_io.proofs.Written.{prefix_more}
 use Rattle.build.specs.Plan.{Plan, IsWhole}
 use Rattle.build.specs.Outputs.{outputs}
@@ -33,6 +33,9 @@ use Rattle.compiler.specs.Compiled.{Compiled}
 use Rattle.compiler.specs.PlaceOrder.{expand, places_under}
 use Rattle.compiler.proofs.CompiledLaws.{compiled_shows, compiled_takes}
 use Rattle.compiler.proofs.PlacedLaws.{compiled_in_places}
+use Rattle.player.specs.declared.PlayRefusal.{PlayRefusal}
+use Rattle.player.specs.declared.PlayRefusal.TheVariants.{WriteFault}
+use Rattle.player.specs.Ending.{EndsWriting}
 use Rattle.player.specs.Noted.{node_lines}
 use Rattle.player.specs.Played.{ShowsCounted, graph_run_text, last_view}
 use Rattle.player.proofs.GraphRuns.{some_run}
@@ -40,6 +43,17 @@ use Rattle.player.proofs.Scripts.{acts_taken}
 use Rattle.redpile_top.specs.declared.form.NodeChoice.{NodeChoice}
 use Rattle.redpile_top.specs.declared.form.NodeChoice.TheVariants.{Pruned, Kept, KeptInOrder}
 use Rattle.redpile_top.specs.Written.{front_of, keep_of, is_ordered, ordered_text, RunsCompiled, RunsInOrder, WroteBehind, WroteBehindPrefix, WroteRunOf, WroteRunPrefixOf, HasSummary}
+
+-- ---- how a call ends
+
+module _ {T : Type 0} (Did : T → Type 0) (Began Untouched : Type 0) (faults_before faults_now : ℕ) where
+  -- all was written
+  pub ended_whole : (x : T) → Did x → faults_before ≤ faults_now → EndsWriting Did Began Untouched faults_before faults_now (Ok x)
+  ended_whole x did later = record { done = did; front = λ e. absurd (cc); fault = λ e. absurd (cc); nothing = λ e. absurd (cc); later = later }
+
+  -- the sink failed
+  pub ended_front : Began → Rose faults_before faults_now → faults_before ≤ faults_now → EndsWriting Did Began Untouched faults_before faults_now (Err WriteFault)
+  ended_front began rose later = record { done = tt; front = λ e. began; fault = λ e. rose; nothing = λ e. absurd (cc); later = later }
 
 -- a compiled graph takes the clicks of a script that fits its build
 pub graph_takes : (b : Plan) → IsWhole b → (script : Meaning) (keep : Keep) (g : Nodes) → Compiled b script.marks keep g → IsFit (takes_click b) (is_wire_at b) script → EachActTaken (graph_circuit g) script.acts
