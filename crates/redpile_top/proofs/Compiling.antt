@@ -111,7 +111,7 @@ module _ (with_graph : Bool) (b : Plan) (whole : IsWhole b) (script : Meaning) (
   runs_in_order compiled views counts run =
       let placed = (compiled_in_places b whole script.marks g compiled).plays script.acts run.shown.order views run.shown.last run.shown.plays in
       record {
-        runs = runs_compiled b whole script All g compiled views counts run;
+        runs = record { compiled = compiled; run = run; shown = compiled_shows b whole script.marks All g compiled script.acts views counts.events run.shown };
         fired = refl;
         replays = (placed.0, placed.1);
       }

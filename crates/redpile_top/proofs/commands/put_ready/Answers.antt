@@ -26,8 +26,8 @@ returns-clause-done g c =
     let done = c.in_ok-put.ensures.done in
     record {
       views = done.views;
-      counts = c.in_ok-put.put;
+      counts = c.in_ok-put.field-0;
       run = done.run;
       wrote = wrote_both (g.O.Sink.written c.args.out.now) (g.O.Sink.written c.put_all.new.sink) (g.O.Sink.written c.put.new.out) c.args.front.now
-          (graph_run_text c.args.ready.is_ordered c.args.ready.nodes c.args.ready.header c.args.script.now.acts done.run.shown.order done.views c.in_ok-put.put) c.in_ok-put_all.ensures.all done.wrote;
+          (graph_run_text c.args.ready.is_ordered c.args.ready.nodes c.args.ready.header c.args.script.now.acts done.run.shown.order done.views c.in_ok-put.field-0) c.in_ok-put_all.ensures.all done.wrote;
     }

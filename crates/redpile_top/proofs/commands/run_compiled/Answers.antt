@@ -11,8 +11,8 @@ use Rattle.redpile_top.specs.Written.{keep_of, is_ordered, WroteBehind, WroteBeh
 use Rattle.redpile_top.proofs.Compiling.{graph_takes, wrote_run, began_run, ended_whole, ended_front}
 use Rattle.redpile_top.proofs.commands.run_compiled.Goals as goal
 
-pub new-ready-requires : goal.new-ready-requires
-new-ready-requires g c = compiled_sound c.args.build.now c.cells.ensures.whole c.args.script.now.marks c.keep_of.result c.in_ok-graph.graph.nodes
+pub new-requires : goal.new-requires
+new-requires g c = compiled_sound c.args.build.now c.cells.ensures.whole c.args.script.now.marks c.keep_of.result c.in_ok-graph.graph.nodes
     (subst (λ (marks : List _). Compiled c.args.build.now marks c.keep_of.result c.in_ok-graph.graph.nodes) c.marks.ensures c.in_ok-graph.ensures)
 
 pub put_ready-requires : goal.put_ready-requires
@@ -36,8 +36,8 @@ returns-in-Ok g c =
     (ap header (c.deref.ensures.value ∙ c.in_ok-places.ensures ∙ ap (outputs b) c.marks-2.ensures)) before now c.args.nodes compiled ordered)
     c.in-Ok.ensures.cause.later
 
-pub returns-in-Err : goal.returns-in-Err
-returns-in-Err g c =
+pub returns : goal.returns
+returns g c =
     let b = c.args.build.now in
     let script = c.args.script.now in
     let nodes = c.in_ok-graph.graph.nodes in
