@@ -123,13 +123,17 @@ module _ {K : Type 0} (C : Circuit K) (cost : K → ℕ) (acts : List Act) (spen
   run_begins counted s steps none is_start is_script =
       subst (λ (l : List Step). GoingOn counted spent_before s l) (sym is_script)
       (subst (λ (t : State K). GoingOn counted spent_before t (steps_of acts)) (sym is_start)
-      (record { events = 0; right = none; going = λ order rest last run. record {
-        views = view C (start C) ∷ rest;
-        whole = order;
-        plays = record { rest = rest; at_start = refl; run = run };
-        count = omega (arith, click_count-steps_of acts);
-        spends = omega arith;
-      } }))
+      (record {
+        events = 0;
+        right = none;
+        going = λ order rest last run. record {
+          views = view C (start C) ∷ rest;
+          whole = order;
+          plays = record { rest = rest; at_start = refl; run = run };
+          count = omega (arith, click_count-steps_of acts);
+          spends = omega arith;
+        };
+      }))
 
   pub run_goes_on : (counted counted_after : ℕ → Type 0) (note : List K → List ℕ) (spent spent_after : ℕ) (s next : State K) (step : Step) (all left : List Step) (noted : List ℕ) →
       GoingOn counted spent s all → all ≡ step ∷ left → StepsOn C cost note step s next counted counted_after spent spent_after noted → GoingOn counted_after spent_after next left

@@ -68,7 +68,13 @@ impl<'a, L: Ledger> Plays<Steps<L>> for GraphPlay<'a> {
     }
 
     fn step(&mut self, step: Step, shown: &mut LastView, costs: &mut Steps<L>) {
-        take_step(&mut self.machine, self.is_ordered, &mut self.fired, step, costs);
+        take_step(
+            &mut self.machine,
+            self.is_ordered,
+            &mut self.fired,
+            step,
+            costs,
+        );
         self.machine.view(&mut self.values);
         shown.set_all(&self.values);
     }
@@ -171,11 +177,7 @@ fn put_node<O: Sink>(
     }
 }
 
-fn put_fires<O: Sink>(
-    places: &[Pos],
-    line: &mut LineBuf,
-    out: &mut O,
-) -> Result<(), WriteFault>
+fn put_fires<O: Sink>(places: &[Pos], line: &mut LineBuf, out: &mut O) -> Result<(), WriteFault>
     requires room { 96 ≤ line.old.room }
     ensures room { line.new.room ≡ line.old.room }
     ensures all { OnOk result (Wrote (O.written out.old) (O.written out.new) (flat_map fire_line places.now)) }

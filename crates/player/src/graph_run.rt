@@ -139,7 +139,9 @@ impl<'a> ReadyGraph<'a> {
             mut shown,
             mut line,
         } = self;
-        put_graph(&header, script, &mut play, &mut shown, &mut line, out, steps)
+        put_graph(
+            &header, script, &mut play, &mut shown, &mut line, out, steps,
+        )
     }
 }
 

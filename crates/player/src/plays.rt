@@ -144,12 +144,7 @@ pub fn put_run<O: Sink, S, P: Plays<S>>(
 
 /// Plays what has just started to the end of a script, and writes nothing. `shown` has the values
 /// of the last view then.
-pub fn play_on<S, P: Plays<S>>(
-    script: &Script,
-    player: &mut P,
-    shown: &mut LastView,
-    costs: &mut S,
-)
+pub fn play_on<S, P: Plays<S>>(script: &Script, player: &mut P, shown: &mut LastView, costs: &mut S)
     requires taken { EachActTaken (P.circuit player.old) script.now.acts }
     requires start { P.state player.old ≡ start (P.circuit player.old) }
     requires none { P.counted player.old 0 }

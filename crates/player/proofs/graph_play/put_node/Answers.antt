@@ -25,6 +25,6 @@ returns-in_ok-put_fire-in-Some-clause-front g c =
     let now = g.O.Sink.written c.put_fires.new.out in
     let pos = c.in-Some.node.now.pos in
     let lines = ap (λ (places : List Pos). fire_line pos ++ flat_map fire_line places) c.deref.ensures.value
-        ∙ ap (λ (node : Option Node). flat_map fire_line (places_at node)) c.in-Some.ensures.value in
+    ∙ ap (λ (node : Option Node). flat_map fire_line (places_at node)) c.in-Some.ensures.value in
     on_err_then c.put_fires.result _ _
     (λ front. subst (λ (bytes : List ℕ). WrotePrefix before now bytes) lines (prefix_after before mid now (fire_line pos) (flat_map fire_line c.deref.result.now) c.in_ok-put_fire-in-Some.ensures.all front)) c.put_fires.ensures.front

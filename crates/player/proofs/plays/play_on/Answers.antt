@@ -47,4 +47,4 @@ returns-clause-done g c =
     let p = c.args.player.now in
     let none : steps_left c.loop-step.step-iterator ≡ [] = c.in-None.ensures.steps.0 in
     run_ends (g.P.Plays.circuit p) (g.P.Plays.cost p) c.args.script.now.acts (g.P.Plays.spent c.args.costs.now) (g.P.Plays.counted c.loop-step.player) (g.P.Plays.spent c.loop-step.costs) (g.P.Plays.state c.loop-step.player)
-        (steps_left c.loop-step.step-iterator) c.loop-step.invariant.going none
+    (steps_left c.loop-step.step-iterator) c.loop-step.invariant.going none

@@ -17,6 +17,6 @@ returns-clause-front g c time =
     let now = g.O.Sink.written c.put.new.out in
     let shown = c.args.shown.now in
     let line = ap (λ (t : ℕ). view_line t c.cause_after.result shown) c.time.ensures
-        ∙ ap (λ (why : Cause). view_line (g.P.Plays.state c.args.player.now).time why shown) (c.cause_after.ensures time) in
+    ∙ ap (λ (why : Cause). view_line (g.P.Plays.state c.args.player.now).time why shown) (c.cause_after.ensures time) in
     on_err_then c.put.result _ _
     (λ front. prefix_after before mid now (g.P.Plays.noted c.args.player.now) _ c.in_ok-put_noted.ensures.all (subst (λ (bytes : List ℕ). WrotePrefix mid now bytes) line front)) c.put.ensures.front
