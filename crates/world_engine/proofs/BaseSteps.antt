@@ -1,5 +1,5 @@
 -- The bases of things anew, after one gives something else.
-use Rattle.std.proofs.Common.{◌≡◌, ◌≢◌, ℕ, ◌+◌, ◌<◌, ◌≤◌, Bool, true, false, List, [], length, map, set, slice_index, Option, Some, None, refl, sym, ◌∙◌, ap, subst, inl, inr, ◌⊎◌, arith}
+use Rattle.std.proofs.Common.{◌≡◌, ◌≢◌, ℕ, ◌+◌, ◌<◌, ◌≤◌, true, false, List, [], length, map, set, slice_index, Option, Some, None, refl, sym, ◌∙◌, ap, subst, inl, inr, ◌⊎◌, arith}
 use Rattle.std.proofs.lemmas.Bool.{cases_Bool, cases_lt, false≢true}
 use Rattle.std.proofs.Math.ListN.{get_or-eq_default}
 use Rattle.std.proofs.lemmas.List.{length-set, length-map, get_or-map, get_or-set_same, get_or-set_other, ext_get_or}
@@ -20,7 +20,6 @@ use Rattle.wire_net.proofs.Lists.{has-of, later-next}
 use Rattle.wire_shape.specs.Shape.{wire_at}
 use Rattle.wire_shape.specs.Feeders.{feeders}
 use Rattle.wire_shape.specs.FeederFacts.{feeders-few}
-use Rattle.power_rules.specs.RightWires.{source_power}
 use Rattle.cell_queue.specs.Held.{Holding, cell_of}
 use Rattle.wiring.specs.Reads.{IsPlain, direct_places}
 use Rattle.wiring.specs.Things.{Numbered, IsNumbered, number_at, held, nothing, spot, origin, number_of}
@@ -30,7 +29,7 @@ use Rattle.wiring.proofs.ReadLaws.{source-taps, direct_places-source, source-dry
 use Rattle.wiring.proofs.LevelLaws.{row-places, direct_things, cells-at, cells-past, length-cells, fed_below}
 use Rattle.wiring.proofs.Reached.{base-or}
 use Rattle.world_engine.specs.Running.{given_by, AreWithin}
-use Rattle.world_engine.specs.Levels.{AreSure, AreSureBelow, AreBasedFrom, Unbased, Rebased, IsPlaying}
+use Rattle.world_engine.specs.Levels.{AreSure, AreSureBelow, Unbased, Rebased, IsPlaying}
 use Rattle.world_engine.proofs.LevelSteps.{given_other}
 
 -- the base of a wire by those of its direct taps

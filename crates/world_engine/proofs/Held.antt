@@ -16,7 +16,7 @@ use Rattle.build.specs.Places.{IsInside, inside, cell_below, place-cell, places-
 use Rattle.build.specs.Marks.{is_marked}
 use Rattle.build.specs.Roles.{role_of, role_at}
 use Rattle.wiring.specs.Things.{Numbered, IsNumbered, is_thing, number_at, held, nothing, state_by}
-use Rattle.wiring.specs.Numbers.{number_cases, number_inside, number_there, number_back, number_thing, held-there, held-none, option_cases}
+use Rattle.wiring.specs.Numbers.{number_cases, number_inside, number_there, number_thing, held-there, held-none, option_cases}
 use Rattle.world_engine.specs.Running.{state_in, seen_as, circuit_of}
 
 pub test_of_places : IsTest same_place

@@ -11,3 +11,4 @@ pub mod Storing
 pub mod LevelSteps
 pub mod BaseSteps
 pub mod ToldSteps
+pub mod ValueSteps

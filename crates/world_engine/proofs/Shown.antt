@@ -1,8 +1,8 @@
 -- What the outputs show is the view.
-use Rattle.std.proofs.Common.{◌≡◌, ℕ, suc, ◌+◌, ◌-◌, ◌<◌, ◌≤◌, List, length, get_or, map, Option, Some, None, refl, sym, ap, ◌∙◌, inl, inr, ◌⊎◌, arith}
-use Rattle.std.specs.Option.{option_map_or}
+use Rattle.std.proofs.Common.{◌≡◌, ℕ, ◌<◌, List, length, get_or, map, slice_index, Option, Some, None, refl, sym, ap, ◌∙◌, inl, inr, arith}
 use Rattle.std.proofs.lemmas.List.{get_or-map, length-map}
 use Rattle.circuit.specs.declared.Component.{Component}
+use Rattle.circuit.specs.declared.Component.TheVariants.{Wire as WirePart}
 use Rattle.circuit.specs.declared.Readings.{Readings}
 use Rattle.std.proofs.lemmas.Simd.{map-map}
 use Rattle.circuit.specs.declared.Pos.{Pos}
@@ -12,53 +12,86 @@ use Rattle.build.specs.declared.OutPlace.{OutPlace}
 use Rattle.build.specs.declared.OutKind.TheVariants.{Lamp}
 use Rattle.build.specs.Outputs.{outputs}
 use Rattle.build.specs.Roles.{role_at}
-use Rattle.wiring.specs.Things.{Numbered, IsNumbered, number_at, held, nothing, spot, origin, state_by}
-use Rattle.wiring.specs.Numbers.{number_cases, spot-there}
-use Rattle.world_engine.specs.Running.{circuit_of, given_by, seen_as, state_in, shown_of, key_at, output_key, output_keys}
+use Rattle.wiring.specs.Things.{Numbered, IsNumbered, number_at, held, nothing, origin, state_by}
+use Rattle.wiring.specs.Numbers.{number_cases, spot-there, held-there}
+use Rattle.cell_queue.specs.Held.{cell_of}
+use Rattle.world_engine.specs.Running.{circuit_of, given_by, seen_as, state_in, shown_of, AreWithin}
+use Rattle.world_engine.specs.Levels.{AreLevels}
+use Rattle.world_engine.specs.Outlets.{Outlet, Blank, Level, Value, outlet_of, outlet_in, outlet_at, outlet_under, outlets_of}
 use Rattle.world_engine.proofs.Held.{role_none, state-seen}
+use Rattle.world_engine.proofs.LevelSteps.{reads-world}
+use Rattle.world_engine.proofs.ToldSteps.{wire_back}
 
 pub view-shown : (m : Numbered) (time : ℕ) (cells : List Cell) → map (shown_of m cells) (outputs m.plan m.marks) ≡ view (circuit_of m) (state_in (seen_as m time cells))
 view-shown m time cells =
     sym (map-map (seen (circuit_of m) (state_by m 0 cells)) (λ (o : OutPlace). o.pos) (outputs m.plan m.marks))
     ∙ ap (λ (s : State Pos). view (circuit_of m) s) (sym (state-seen m time cells))
 
--- ---- the keys of outputs
+-- ---- how outputs are shown
 
 seen_none : (role : Option Component) (reads : Pos → Readings) (p : Pos) (cell : Cell) → role ≡ None → seen_at role reads p cell ≡ 0
 seen_none None reads p cell e = refl
 seen_none (Some component) reads p cell e = absurd (cc)
 
-key_cases : (m : Numbered) → IsNumbered m → (p : Pos) → ((number_at m p ≡ None) × (key_at m p ≡ 0)) ⊎ ((n : ℕ) × (number_at m p ≡ Some n) × (key_at m p ≡ suc n))
-key_cases m w p = elim (number_cases m p) [
-  | inl e ↦ inl (e, ap (λ (o : Option ℕ). option_map_or suc o 0) e)
-  | inr n ↦ inr (n.0, n.1, ap (λ (o : Option ℕ). option_map_or suc o 0) n.1)
-]
+seen_wire : (role : Option Component) (reads : Pos → Readings) (p : Pos) (cell : Cell) → role ≡ Some WirePart → seen_at role reads p cell ≡ (reads p).back
+seen_wire role reads p cell e = ap (λ (r : Option Component). seen_at r reads p cell) e
 
--- under the key 0 nothing is shown
-pub key_none : (m : Numbered) → IsNumbered m → (cells : List Cell) (p : Pos) → key_at m p ≡ 0 → seen (circuit_of m) (state_by m 0 cells) p ≡ 0
-key_none m w cells p e = elim (key_cases m w p) [
-  | inl n ↦ seen_none (role_at m.plan m.marks p) ((circuit_of m).readings (given_by m cells)) p (held m cells nothing p) (role_none m w p n.0)
-  | inr n ↦ absurd (omega (arith, e, n.2))
-]
+blank_role : (role : Option Component) (n : ℕ) → Blank ≡ outlet_of role n → role ≡ None
+blank_role None n e = refl
+blank_role (Some WirePart) n e = absurd (cc)
+blank_role (Some _) n e = absurd (cc)
 
--- any other key is that of the thing there
-pub key_some : (m : Numbered) → IsNumbered m → (p : Pos) (key : ℕ) → 0 < key → key ≡ key_at m p → spot m (key - 1) ≡ p
-key_some m w p key some is = elim (key_cases m w p) [
-  | inl n ↦ absurd (omega (arith, n.1))
-  | inr n ↦ (let less : key - 1 ≡ n.0 = omega (arith, n.2) in ap (spot m) less ∙ (spot-there m w p n.0 n.1).1)
-]
+-- where an outlet is blank nothing is shown
+pub blank_shows : (m : Numbered) → IsNumbered m → (cells : List Cell) (p : Pos) → Blank ≡ outlet_at m p → seen (circuit_of m) (state_by m 0 cells) p ≡ 0
+blank_shows m w cells p e = seen_none (role_at m.plan m.marks p) ((circuit_of m).readings (given_by m cells)) p (held m cells nothing p) role
+  where
+    role : role_at m.plan m.marks p ≡ None
+    role = elim (number_cases m p) [
+      | inl none ↦ role_none m w p none
+      | inr n ↦ blank_role (role_at m.plan m.marks p) n.0 (e ∙ ap (outlet_in (role_at m.plan m.marks p)) n.1)
+    ]
 
-pub key_below : (m : Numbered) → IsNumbered m → (p : Pos) → key_at m p ≤ length m.spots
-key_below m w p = elim (key_cases m w p) [
-  | inl n ↦ omega (arith, n.1)
-  | inr n ↦ omega (arith, n.2, (spot-there m w p n.0 n.1).0)
-]
+level_parts : (role : Option Component) (number : Option ℕ) (n : ℕ) → Level n ≡ outlet_in role number → (role ≡ Some WirePart) × (number ≡ Some n)
+level_parts role None n e = absurd (cc)
+level_parts None (Some k) n e = absurd (cc)
+level_parts (Some WirePart) (Some k) n e = (refl, cc)
+level_parts (Some _) (Some k) n e = absurd (cc)
+
+value_parts : (role : Option Component) (number : Option ℕ) (n : ℕ) → Value n ≡ outlet_in role number →
+    ((reads : Pos → Readings) (p : Pos) (cell : Cell) → seen_at role reads p cell ≡ cell.value) × (number ≡ Some n)
+value_parts role None n e = absurd (cc)
+value_parts None (Some k) n e = absurd (cc)
+value_parts (Some WirePart) (Some k) n e = absurd (cc)
+value_parts (Some _) (Some k) n e = (λ reads p cell. refl, cc)
+
+module _ (m : Numbered) (w : IsNumbered m) (p : Pos) (n : ℕ) where
+  pub level_inside : Level n ≡ outlet_at m p → n < length m.spots
+  level_inside e = (spot-there m w p n (level_parts (role_at m.plan m.marks p) (number_at m p) n e).1).0
+
+  pub value_inside : Value n ≡ outlet_at m p → n < length m.spots
+  value_inside e = (spot-there m w p n (value_parts (role_at m.plan m.marks p) (number_at m p) n e).1).0
+
+  -- a wire shows its level
+  pub level_shows : (cells : List Cell) (xs : List ℕ) → AreWithin m cells → AreLevels m cells xs → Level n ≡ outlet_at m p → slice_index xs n ≡ seen (circuit_of m) (state_by m 0 cells) p
+  level_shows cells xs within right e =
+      let is = level_parts (role_at m.plan m.marks p) (number_at m p) n e in
+      sym (held-there m xs 0 p n is.1)
+      ∙ wire_back m xs p is.0
+      ∙ ap (λ (reads : Pos → Readings). (reads p).back) (reads-world m w cells xs within right)
+      ∙ sym (seen_wire (role_at m.plan m.marks p) ((circuit_of m).readings (given_by m cells)) p (held m cells nothing p) is.0)
+
+  -- any other thing shows its value
+  pub value_shows : (cells : List Cell) → Value n ≡ outlet_at m p → (cell_of cells n).value ≡ seen (circuit_of m) (state_by m 0 cells) p
+  value_shows cells e =
+      let is = value_parts (role_at m.plan m.marks p) (number_at m p) n e in
+      ap (λ (c : Cell). c.value) (sym (held-there m cells nothing p n is.1))
+      ∙ sym (is.0 ((circuit_of m).readings (given_by m cells)) p (held m cells nothing p))
 
 abbrev pub no_output : OutPlace
 no_output = record { pos = origin; kind = Lamp }
 
-pub key_of_output : (m : Numbered) (keys : List ℕ) (i : ℕ) (key : ℕ) → keys ≡ output_keys m → i < length keys → key ≡ get_or keys i 0 →
-    key ≡ key_at m (get_or (outputs m.plan m.marks) i no_output).pos
-key_of_output m keys i key is inside there =
-    let short : i < length (outputs m.plan m.marks) = omega (arith, ap (λ (ks : List ℕ). length ks) is, length-map (outputs m.plan m.marks) (output_key m)) in
-    there ∙ ap (λ (ks : List ℕ). get_or ks i 0) is ∙ get_or-map (output_key m) (outputs m.plan m.marks) i no_output 0 short
+pub outlet_of_output : (m : Numbered) (outlets : List Outlet) (i : ℕ) (outlet : Outlet) → outlets ≡ outlets_of m → i < length outlets → outlet ≡ get_or outlets i Blank →
+    outlet ≡ outlet_at m (get_or (outputs m.plan m.marks) i no_output).pos
+outlet_of_output m outlets i outlet is inside there =
+    let short : i < length (outputs m.plan m.marks) = omega (arith, ap (λ (os : List Outlet). length os) is, length-map (outputs m.plan m.marks) (outlet_under m)) in
+    there ∙ ap (λ (os : List Outlet). get_or os i Blank) is ∙ get_or-map (outlet_under m) (outputs m.plan m.marks) i no_output Blank short

@@ -1,5 +1,5 @@
 -- The things of a running world as a net have small bases.
-use Rattle.std.proofs.Common.{ℕ, ◌≤◌, List, length, map, refl, sym, ap, arith, inl, inr}
+use Rattle.std.proofs.Common.{ℕ, ◌≤◌, List, length, arith, inl, inr}
 use Rattle.std.specs.Prelude.{slice_index_or}
 use Rattle.std.proofs.lemmas.Bool.{cases_Bool, cases_lt}
 use Rattle.std.proofs.lemmas.List.{get_or-map, length-map}

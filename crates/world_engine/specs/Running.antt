@@ -1,5 +1,5 @@
 -- What a running world is, and what it is seen as.
-use Rattle.std.specs.Prelude.{◌≡◌, ◌≢◌, ◌≤◌, ◌<◌, ◌^◌, ◌⊎◌, ℕ, suc, length, map, List, Option, Some, None}
+use Rattle.std.specs.Prelude.{◌≡◌, ◌≤◌, ◌<◌, ◌^◌, ℕ, length, map, List, Option, Some, None}
 use Rattle.circuit.specs.declared.Pos.{Pos}
 use Rattle.circuit.specs.declared.Component.{Component}
 use Rattle.circuit.specs.declared.Readings.{Readings}
@@ -8,13 +8,11 @@ use Rattle.circuit.specs.Component.{top}
 use Rattle.circuit.specs.Circuit.{Circuit, State, IsDue, IsFiringList, fire, fire_all, outs, seen, attended_at}
 use Rattle.cell_queue.specs.Held.{Holding}
 use Rattle.build.specs.declared.OutPlace.{OutPlace}
-use Rattle.std.specs.Option.{option_map_or}
 use Rattle.build.specs.Plan.{Plan, entry, places}
-use Rattle.build.specs.Outputs.{outputs}
 use Rattle.build.specs.Roles.{role_at, first_at}
 use Rattle.power_rules.specs.World.{world_circuit}
 pub use Rattle.wiring.specs.Things.{spot}
-use Rattle.wiring.specs.Things.{Numbered, number_at, held, nothing, state_by}
+use Rattle.wiring.specs.Things.{Numbered, held, nothing, state_by}
 
 -- the build that runs, its marks, the time, and what each cell of the box holds
 pub record Running : Type 0 where
@@ -46,6 +44,9 @@ given_by m cells = outs (circuit_of m) (state_by m 0 cells)
 -- no value is above the greatest of its component
 abbrev pub AreWithin : Numbered → List Cell → Type 0
 AreWithin m cells = (p : Pos) (component : Component) → role_at m.plan m.marks p ≡ Some component → (held m cells nothing p).value ≤ top component
+
+abbrev pub value_of : Cell → ℕ
+value_of cell = cell.value
 
 -- ---- attending
 
@@ -80,17 +81,6 @@ pub record FiresAll (C : Circuit Pos) (old new : State Pos) : Type 0 where
 -- what an output shows, at whatever time
 abbrev pub shown_of : Numbered → List Cell → OutPlace → ℕ
 shown_of m cells o = seen (circuit_of m) (state_by m 0 cells) o.pos
-
--- one more than the number of the thing at a place, and 0 where none stands
-abbrev pub key_at : Numbered → Pos → ℕ
-key_at m p = option_map_or suc (number_at m p) 0
-
-abbrev pub output_key : Numbered → OutPlace → ℕ
-output_key m o = key_at m o.pos
-
--- what an output is found by
-abbrev pub output_keys : Numbered → List ℕ
-output_keys m = map (output_key m) (outputs m.plan m.marks)
 
 -- ---- a world that runs
 

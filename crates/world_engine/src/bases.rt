@@ -11,7 +11,7 @@ ghost use Rattle.world_engine.specs.Running.{given_by, AreWithin};
 ghost use Rattle.world_engine.specs.Levels.{AreLevels, AreSure, AreSureBelow, Unbased, Rebased};
 
 use crate::parts::{base_of_block, is_wire_of, role_of};
-use cell_queue::Cells;
+use crate::valued::ValuedCells;
 use rp_text::NoMemory;
 use std::alloc::Global;
 use wire_net::{Net, Waves, resolve_noted, solve_into};
@@ -30,7 +30,7 @@ pub(crate) fn row_level(levels: &[u8], row: &[u32]) -> u8
 }
 
 // What the thing of a number gives.
-fn given_of(things: &Things, wiring: &Wiring, cells: &Cells, number: usize) -> u8
+fn given_of(things: &Things, wiring: &Wiring, cells: &ValuedCells, number: usize) -> u8
     requires inside { number < length things.now.spots }
     requires within { AreWithin things.now cells.now.cells }
     requires wired { IsWired things.now wiring.now }
@@ -44,7 +44,7 @@ fn given_of(things: &Things, wiring: &Wiring, cells: &Cells, number: usize) -> u
 }
 
 // What a thing has without its feeders.
-fn base_of(things: &Things, wiring: &Wiring, cells: &Cells, bases: &[u8], number: usize) -> u8
+fn base_of(things: &Things, wiring: &Wiring, cells: &ValuedCells, bases: &[u8], number: usize) -> u8
     requires inside { number < length things.now.spots }
     requires within { AreWithin things.now cells.now.cells }
     requires wired { IsWired things.now wiring.now }
@@ -61,7 +61,7 @@ fn base_of(things: &Things, wiring: &Wiring, cells: &Cells, bases: &[u8], number
 }
 
 // Gives a thing that is no wire its base.
-fn put_base(things: &Things, wiring: &Wiring, cells: &Cells, bases: &mut [u8], number: usize)
+fn put_base(things: &Things, wiring: &Wiring, cells: &ValuedCells, bases: &mut [u8], number: usize)
     requires inside { number < length things.now.spots }
     requires within { AreWithin things.now cells.now.cells }
     requires wired { IsWired things.now wiring.now }
@@ -76,7 +76,7 @@ fn put_base(things: &Things, wiring: &Wiring, cells: &Cells, bases: &mut [u8], n
 }
 
 // Gives a thing its base if it is no wire.
-fn put_given(things: &Things, wiring: &Wiring, cells: &Cells, bases: &mut [u8], number: usize)
+fn put_given(things: &Things, wiring: &Wiring, cells: &ValuedCells, bases: &mut [u8], number: usize)
     requires inside { number < length things.now.spots }
     requires within { AreWithin things.now cells.now.cells }
     requires wired { IsWired things.now wiring.now }
@@ -92,7 +92,7 @@ fn put_given(things: &Things, wiring: &Wiring, cells: &Cells, bases: &mut [u8], 
 }
 
 // The bases of all things that are no wires.
-fn fill_given(things: &Things, wiring: &Wiring, cells: &Cells, bases: &mut [u8])
+fn fill_given(things: &Things, wiring: &Wiring, cells: &ValuedCells, bases: &mut [u8])
     requires within { AreWithin things.now cells.now.cells }
     requires wired { IsWired things.now wiring.now }
     requires whole { length bases.old ≡ length things.now.spots }
@@ -104,7 +104,7 @@ fn fill_given(things: &Things, wiring: &Wiring, cells: &Cells, bases: &mut [u8])
 }
 
 /// The bases of all things.
-pub(crate) fn fill_bases(things: &Things, wiring: &Wiring, cells: &Cells, bases: &mut [u8])
+pub(crate) fn fill_bases(things: &Things, wiring: &Wiring, cells: &ValuedCells, bases: &mut [u8])
     requires within { AreWithin things.now cells.now.cells }
     requires wired { IsWired things.now wiring.now }
     requires whole { length bases.old ≡ length things.now.spots }
@@ -121,7 +121,7 @@ pub(crate) fn fill_bases(things: &Things, wiring: &Wiring, cells: &Cells, bases:
 pub(crate) fn rebase(
     things: &Things,
     wiring: &Wiring,
-    cells: &Cells,
+    cells: &ValuedCells,
     bases: &mut [u8],
     number: usize,
 )
@@ -143,7 +143,7 @@ pub(crate) fn rebase(
 #[derive(Drop)]
 struct LevelNet<'t, 'c, 'w, 'b> {
     things: &'t Things,
-    cells: &'c Cells,
+    cells: &'c ValuedCells,
     wiring: &'w Wiring,
     bases: &'b [u8],
     ghost within: { AreWithin things.now cells.now.cells },
@@ -183,7 +183,7 @@ impl<'t, 'c, 'w, 'b> Net for LevelNet<'t, 'c, 'w, 'b> {
 pub(crate) fn relevel(
     things: &Things,
     wiring: &Wiring,
-    cells: &Cells,
+    cells: &ValuedCells,
     bases: &[u8],
     levels: &mut [u8],
     changed: &[u32],
@@ -218,7 +218,7 @@ pub(crate) fn relevel(
 pub(crate) fn solve_levels(
     things: &Things,
     wiring: &Wiring,
-    cells: &Cells,
+    cells: &ValuedCells,
     bases: &[u8],
     levels: &mut [u8],
 )
@@ -245,7 +245,7 @@ pub(crate) fn level_waves(
     alloc: Global,
     things: &Things,
     wiring: &Wiring,
-    cells: &Cells,
+    cells: &ValuedCells,
     bases: &[u8],
 ) -> Result<Waves, NoMemory>
     requires within { AreWithin things.now cells.now.cells }

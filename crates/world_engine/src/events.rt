@@ -1,27 +1,23 @@
 //! What happens in one click and in one tick.
 
-ghost use Rattle.std.specs.Prelude.{◌≡◌, ◌<◌, ◌≤◌, OnOk, OnErr, IfOk, length, map};
+ghost use Rattle.std.specs.Prelude.{◌≡◌, ◌<◌, OnOk, OnErr, length};
 ghost use Rattle.circuit.specs.Bounds.{BoundedAt};
-ghost use Rattle.circuit.specs.Circuit.{fired_in, seen, start, Clicks};
+ghost use Rattle.circuit.specs.Circuit.{fired_in, start, Clicks};
 ghost use Rattle.circuit.specs.Taken.{Takes};
-ghost use Rattle.build.specs.Outputs.{outputs};
 ghost use Rattle.build.specs.Roles.{role_at, stored};
 ghost use Rattle.circuit.specs.declared.Pos.{Pos};
 ghost use Rattle.cell_queue.specs.Held.{NoneNow};
-ghost use Rattle.wiring.specs.Things.{state_by};
-ghost use Rattle.world_engine.specs.Running.{circuit_of, state_of, spot, given_by, AreIdle, IsHolding, FiresAll, MayFire, shown_of, key_at, output_keys};
+ghost use Rattle.world_engine.specs.Running.{circuit_of, state_of, spot, given_by, AreIdle, IsHolding, FiresAll, MayFire};
 ghost use Rattle.wiring.specs.Wired.{IsWired, bases_of};
 ghost use Rattle.world_engine.specs.Levels.{AreLevels, AreQuiet, IsPlaying};
 
 use crate::bases::{fill_bases, solve_levels};
 use crate::settle::settle;
 use crate::sight::cell_at;
-use crate::told::{attend_all, fired, shown};
+use crate::told::{attend_all, fired};
+use crate::valued::ValuedCells;
 use build::ClickRefusal;
-use cell_queue::Cells;
 use circuit::{Cell, Click, Pos};
-use rp_text::NoMemory;
-use std::alloc::Global;
 use wire_net::Waves;
 use wiring::{Things, Wiring};
 
@@ -31,7 +27,7 @@ pub(crate) fn begin(
     wiring: &Wiring,
     bases: &mut [u8],
     levels: &mut [u8],
-    cells: &mut Cells,
+    cells: &mut ValuedCells,
 )
     requires wired { IsWired things.now wiring.now }
     requires cells_whole { length cells.old.cells ≡ length things.now.spots }
@@ -52,7 +48,13 @@ pub(crate) fn begin(
 }
 
 // What the thing of a number holds after it has fired.
-fn fired_from(things: &Things, wiring: &Wiring, cells: &Cells, levels: &[u8], number: usize) -> Cell
+fn fired_from(
+    things: &Things,
+    wiring: &Wiring,
+    cells: &ValuedCells,
+    levels: &[u8],
+    number: usize,
+) -> Cell
     requires inside { number < length things.now.spots }
     requires wired { IsWired things.now wiring.now }
     requires holding { IsHolding things.now cells.now }
@@ -68,7 +70,7 @@ fn fired_from(things: &Things, wiring: &Wiring, cells: &Cells, levels: &[u8], nu
 fn fire_next(
     things: &Things,
     wiring: &Wiring,
-    cells: &mut Cells,
+    cells: &mut ValuedCells,
     bases: &mut [u8],
     levels: &mut [u8],
     waves: &mut Waves,
@@ -92,7 +94,7 @@ fn fire_next(
 pub(crate) fn fire_due(
     things: &Things,
     wiring: &Wiring,
-    cells: &mut Cells,
+    cells: &mut ValuedCells,
     bases: &mut [u8],
     levels: &mut [u8],
     waves: &mut Waves,
@@ -114,7 +116,7 @@ pub(crate) fn fire_due(
 pub(crate) fn take_click(
     things: &Things,
     wiring: &Wiring,
-    cells: &mut Cells,
+    cells: &mut ValuedCells,
     bases: &mut [u8],
     levels: &mut [u8],
     waves: &mut Waves,
@@ -148,83 +150,4 @@ pub(crate) fn take_click(
             Ok(())
         }
     }
-}
-
-// What the thing of a number shows.
-fn shown_of_number(
-    things: &Things,
-    wiring: &Wiring,
-    cells: &Cells,
-    levels: &[u8],
-    number: usize,
-) -> u8
-    requires inside { number < length things.now.spots }
-    requires wired { IsWired things.now wiring.now }
-    requires holding { IsHolding things.now cells.now }
-    requires right { AreLevels things.now cells.now.cells levels.now }
-    ensures { result ≡ seen (circuit_of things.now) (state_by things.now 0 cells.now.cells) (spot things.now number) }
-{
-    let _ = things.count();
-    shown(things, wiring, levels, cells, number)
-}
-
-// What is shown under the key of an output.
-fn shown_under(things: &Things, wiring: &Wiring, cells: &Cells, levels: &[u8], key: u32) -> u8
-    requires below { key ≤ length things.now.spots }
-    requires wired { IsWired things.now wiring.now }
-    requires holding { IsHolding things.now cells.now }
-    requires right { AreLevels things.now cells.now.cells levels.now }
-    ensures { (p : Pos) → key ≡ key_at things.now p → result ≡ seen (circuit_of things.now) (state_by things.now 0 cells.now.cells) p }
-{
-    let _ = things.count();
-    if key == 0 {
-        0
-    } else {
-        shown_of_number(things, wiring, cells, levels, key as usize - 1)
-    }
-}
-
-/// What the outputs show.
-pub(crate) fn view_into(
-    things: &Things,
-    wiring: &Wiring,
-    cells: &Cells,
-    levels: &[u8],
-    keys: &[u32],
-    into: &mut [u8],
-)
-    requires wired { IsWired things.now wiring.now }
-    requires holding { IsHolding things.now cells.now }
-    requires right { AreLevels things.now cells.now.cells levels.now }
-    requires outputs { keys.now ≡ output_keys things.now }
-    requires room { length into.old ≡ length keys.now }
-    ensures { into.new ≡ map (shown_of things.now cells.now.cells) (outputs things.now.plan things.now.marks) }
-{
-    let _ = things.count();
-    for (index, key) in keys.iter().enumerate() {
-        into[index] = shown_under(things, wiring, cells, levels, *key);
-    }
-}
-
-// What the output of a place is found by.
-fn key_at(things: &Things, pos: Pos) -> u32
-    ensures { result ≡ key_at things.now pos }
-{
-    let _ = things.count();
-    match things.number(pos) {
-        Some(number) => number as u32 + 1,
-        None => 0,
-    }
-}
-
-/// What the outputs are found by.
-pub(crate) fn output_keys(alloc: Global, things: &Things) -> Result<Vec<u32>, NoMemory>
-    ensures { IfOk result (λ keys. keys.items ≡ output_keys things.now) }
-{
-    let places = things.outputs(alloc)?;
-    let mut keys = Vec::with_capacity(alloc, places.len())?;
-    for place in &places {
-        keys.push(key_at(things, place.pos))?;
-    }
-    Ok(keys)
 }

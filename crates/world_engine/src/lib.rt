@@ -3,6 +3,7 @@
 
 mod bases;
 mod events;
+mod outlets;
 mod parts;
 mod settle;
 mod sight;
@@ -10,6 +11,7 @@ mod stored;
 #[cfg(test)]
 mod tests;
 mod told;
+mod valued;
 mod world;
 
 pub use world::World;

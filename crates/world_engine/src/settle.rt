@@ -11,7 +11,7 @@ ghost use Rattle.world_engine.specs.Levels.{AreQuiet, OthersQuiet, IsPlaying};
 
 use crate::bases::{rebase, relevel};
 use crate::told::attend_told;
-use cell_queue::Cells;
+use crate::valued::ValuedCells;
 use circuit::Cell;
 use wire_net::Waves;
 use wiring::{Things, Wiring};
@@ -22,7 +22,7 @@ use wiring::{Things, Wiring};
 pub(crate) fn settle(
     things: &Things,
     wiring: &Wiring,
-    cells: &mut Cells,
+    cells: &mut ValuedCells,
     bases: &mut [u8],
     levels: &mut [u8],
     waves: &mut Waves,

@@ -17,7 +17,7 @@ ghost use Rattle.world_engine.specs.Levels.{AreLevels, AreQuiet, reads_by, HaveA
 
 use crate::bases::row_level;
 use crate::parts::{is_first, is_wire_of, role_of, strengthened};
-use cell_queue::Cells;
+use crate::valued::ValuedCells;
 use circuit::{Cell, Component, Readings};
 use wire_net::Waves;
 use wiring::{Things, Wiring};
@@ -45,7 +45,7 @@ fn attended_of(
     things: &Things,
     wiring: &Wiring,
     levels: &[u8],
-    cells: &Cells,
+    cells: &ValuedCells,
     number: usize,
     component: Component,
 ) -> Cell
@@ -67,7 +67,13 @@ fn attended_of(
 }
 
 // The thing of a number attends.
-fn attend_thing(things: &Things, wiring: &Wiring, levels: &[u8], cells: &mut Cells, number: usize)
+fn attend_thing(
+    things: &Things,
+    wiring: &Wiring,
+    levels: &[u8],
+    cells: &mut ValuedCells,
+    number: usize,
+)
     requires inside { number < length things.now.spots }
     requires wired { IsWired things.now wiring.now }
     requires whole { length levels.now ≡ length things.now.spots }
@@ -89,7 +95,13 @@ fn attend_thing(things: &Things, wiring: &Wiring, levels: &[u8], cells: &mut Cel
 }
 
 // The readers that tap a thing attend.
-fn attend_readers(things: &Things, wiring: &Wiring, levels: &[u8], cells: &mut Cells, tap: usize)
+fn attend_readers(
+    things: &Things,
+    wiring: &Wiring,
+    levels: &[u8],
+    cells: &mut ValuedCells,
+    tap: usize,
+)
     requires wired { IsWired things.now wiring.now }
     requires whole { length levels.now ≡ length things.now.spots }
     requires plain { IsPlain things.now.plan (held things.now levels.now 0) }
@@ -108,7 +120,7 @@ fn attend_readers_of(
     things: &Things,
     wiring: &Wiring,
     levels: &[u8],
-    cells: &mut Cells,
+    cells: &mut ValuedCells,
     taps: &[u32],
 )
     requires wired { IsWired things.now wiring.now }
@@ -129,7 +141,7 @@ pub(crate) fn attend_told(
     things: &Things,
     wiring: &Wiring,
     levels: &[u8],
-    cells: &mut Cells,
+    cells: &mut ValuedCells,
     number: usize,
     waves: &Waves,
 )
@@ -151,7 +163,7 @@ pub(crate) fn attend_told(
 }
 
 /// All things attend.
-pub(crate) fn attend_all(things: &Things, wiring: &Wiring, levels: &[u8], cells: &mut Cells)
+pub(crate) fn attend_all(things: &Things, wiring: &Wiring, levels: &[u8], cells: &mut ValuedCells)
     requires wired { IsWired things.now wiring.now }
     requires right { AreLevels things.now cells.old.cells levels.now }
     requires holding { IsHolding things.now cells.old }
@@ -189,7 +201,7 @@ pub(crate) fn fired(
     things: &Things,
     wiring: &Wiring,
     levels: &[u8],
-    cells: &Cells,
+    cells: &ValuedCells,
     number: usize,
 ) -> Cell
     requires inside { number < length things.now.spots }
@@ -209,36 +221,5 @@ pub(crate) fn fired(
             cell,
         ),
         None => cell,
-    }
-}
-
-// What a wire that is looked at shows.
-fn wire_shows(things: &Things, levels: &[u8], number: usize) -> u8
-    requires inside { number < length things.now.spots }
-    requires wire { role_at things.now.plan things.now.marks (spot things.now number) ≡ Some Wire }
-    requires whole { length levels.now ≡ length things.now.spots }
-    ensures { result ≡ (reads_by things.now levels.now (spot things.now number)).back }
-{
-    let _ = things.count();
-    levels[number]
-}
-
-/// What the thing of a number shows: a wire its power, every other component its value.
-pub(crate) fn shown(
-    things: &Things,
-    wiring: &Wiring,
-    levels: &[u8],
-    cells: &Cells,
-    number: usize,
-) -> u8
-    requires inside { number < length things.now.spots }
-    requires wired { IsWired things.now wiring.now }
-    requires whole { length levels.now ≡ length things.now.spots }
-    ensures { result ≡ seen_at (role_at things.now.plan things.now.marks (spot things.now number)) (reads_by things.now levels.now) (spot things.now number) (cell_of cells.now.cells number) }
-{
-    match role_of(things, wiring, number) {
-        Some(Component::Wire) => wire_shows(things, levels, number),
-        Some(_) => cells.cell(number).value,
-        None => 0,
     }
 }

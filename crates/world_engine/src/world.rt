@@ -7,10 +7,11 @@ ghost use Rattle.circuit.specs.Taken.{Takes};
 ghost use Rattle.power_rules.specs.World.{world_circuit};
 
 use crate::bases::level_waves;
-use crate::events::{begin, fire_due, output_keys, take_click, view_into};
+use crate::events::{begin, fire_due, take_click};
+use crate::outlets::{Outlet, outlets, view_into};
 use crate::stored::stored_cells;
+use crate::valued::ValuedCells;
 use build::{Build, ClickRefusal, Marks};
-use cell_queue::Cells;
 use circuit::{Click, Pos};
 use rp_text::NoMemory;
 use std::alloc::Global;
@@ -22,10 +23,10 @@ use wiring::{Things, Wiring};
 #[derive(Drop)]
 pub struct World {
     things: Things,
-    // What the outputs are found by.
-    outputs: Vec<u32>,
+    // How the outputs are shown.
+    outlets: Vec<Outlet>,
     wiring: Wiring,
-    cells: Cells,
+    cells: ValuedCells,
     bases: Vec<u8>,
     levels: Vec<u8>,
     waves: Waves,
@@ -39,7 +40,7 @@ impl Model for World {
 
     ghost view = { λ w. seen_as w.things w.cells.time w.cells.cells };
 
-    ghost invariant = { λ w. IsRunning w.things w.wiring w.outputs.items w.cells w.bases.items w.levels.items w.waves.feeders };
+    ghost invariant = { λ w. IsRunning w.things w.wiring w.outlets.items w.cells w.bases.items w.levels.items w.waves.feeders };
 }
 
 impl World {
@@ -53,8 +54,8 @@ impl World {
         ensures start { IfOk result (λ world. state_in world ≡ start (world_circuit build.now marks.now)) }
     {
         let things = Things::new(alloc, build, marks)?;
-        let outputs = output_keys(alloc, &things)?;
-        let mut cells = Cells::new(alloc, stored_cells(alloc, &things)?)?;
+        let outlets = outlets(alloc, &things)?;
+        let mut cells = ValuedCells::new(alloc, stored_cells(alloc, &things)?)?;
         let wiring = Wiring::new(alloc, &things)?;
         let mut bases = vec![in alloc; 0u8; things.count()]?;
         let mut levels = vec![in alloc; 0u8; things.count()]?;
@@ -62,7 +63,7 @@ impl World {
         let waves = level_waves(alloc, &things, &wiring, &cells, &bases)?;
         Ok(World {
             things,
-            outputs,
+            outlets,
             wiring,
             cells,
             bases,
@@ -123,7 +124,7 @@ impl World {
     pub fn output_count(&self) -> usize
         ensures { result ≡ length (world_circuit self.now.plan self.now.marks).shown }
     {
-        self.outputs.len()
+        self.outlets.len()
     }
 
     /// What the outputs show, in order of places: 0 or 1, and of a wire its power.
@@ -132,13 +133,6 @@ impl World {
         ensures values { into.new ≡ view (world_circuit self.now.plan self.now.marks) (state_in self.now) }
         ensures small { All (λ value. value ≤ 15) into.new }
     {
-        view_into(
-            &self.things,
-            &self.wiring,
-            &self.cells,
-            &self.levels,
-            &self.outputs,
-            into,
-        );
+        view_into(&self.things, &self.cells, &self.levels, &self.outlets, into);
     }
 }

@@ -1,4 +1,4 @@
-use Rattle.std.proofs.Common.{ℕ, List, length, ap, ◌∙◌, arith}
+use Rattle.std.proofs.Common.{arith}
 use Rattle.world_engine.specs.Running.{given_by}
 use Rattle.world_engine.proofs.BaseSteps.{based_start, based_more, sure_more, based_all}
 use Rattle.world_engine.proofs.bases.fill_bases.Goals as goal

@@ -1,12 +1,9 @@
 use Rattle.std.proofs.Common.{◌≡◌, None, Some, sym, ap, ◌∙◌, subst}
-use Rattle.circuit.specs.declared.Pos.{Pos}
-use Rattle.circuit.specs.Bounds.{BoundedAt}
 use Rattle.circuit.specs.Circuit.{fired_in, attend, put}
-use Rattle.build.specs.Roles.{role_at}
 use Rattle.cell_queue.specs.Held.{Holding, CanFollow, cell_of}
 use Rattle.world_engine.specs.Running.{circuit_of, state_of, spot, IsHolding}
 use Rattle.world_engine.specs.Levels.{AreLevels, IsPlaying, OthersQuiet}
-use Rattle.world_engine.proofs.Playing.{inside, component, resting, resting_playing, resting_quiet, fired_can_follow, fires_one, none_due}
+use Rattle.world_engine.proofs.Playing.{inside, component, resting_playing, resting_quiet, fired_can_follow, fires_one, none_due}
 use Rattle.world_engine.proofs.events.fire_next.Goals as goal
 
 pub returns-in_default-clause-state : goal.returns-in_default-clause-state

@@ -3,9 +3,8 @@ use Rattle.wire_net.specs.Net.{WasRight}
 use Rattle.wire_net.specs.Listed.{list_at}
 use Rattle.wire_net.specs.WaveSteps.{AreBelow}
 use Rattle.cell_queue.specs.Held.{Holding}
-use Rattle.wiring.specs.Things.{state_by, held}
-use Rattle.wiring.specs.Reads.{IsPlain}
-use Rattle.wiring.specs.Wired.{bases_of, level_cells}
+use Rattle.wiring.specs.Things.{state_by}
+use Rattle.wiring.specs.Wired.{level_cells}
 use Rattle.wiring.proofs.Reached.{was_right}
 use Rattle.world_engine.specs.Given.{given-le}
 use Rattle.world_engine.specs.Running.{given_by, AreWithin, IsHolding}

@@ -1,5 +1,4 @@
 use Rattle.std.proofs.Common.{◌≡◌, ◌⊎◌, ℕ, List, subst, arith, ◌∙◌}
-use Rattle.wire_net.specs.Listed.{list_at}
 use Rattle.wire_net.specs.WaveSteps.{Has}
 use Rattle.wiring.specs.Things.{spot}
 use Rattle.world_engine.specs.Levels.{HaveAttended, IsReaderOf}

@@ -1,4 +1,4 @@
-use Rattle.std.proofs.Common.{length, ◌∙◌}
+use Rattle.std.proofs.Common.{length}
 use Rattle.wiring.proofs.LevelLaws.{back_below, side_below, below_as}
 use Rattle.world_engine.proofs.ToldSteps.{read_is}
 use Rattle.world_engine.proofs.told.reads_of.Goals as goal

@@ -1,4 +1,4 @@
-use Rattle.std.proofs.Common.{◌≡◌, ◌≤◌, ℕ, List, length, ap, ◌∙◌, arith}
+use Rattle.std.proofs.Common.{◌≡◌, ℕ, List, length, ap, ◌∙◌, arith}
 use Rattle.wire_net.specs.Net.{cell_at}
 use Rattle.wiring.specs.Wired.{level_cells}
 use Rattle.world_engine.specs.Running.{given_by}

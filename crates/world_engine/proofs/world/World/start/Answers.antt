@@ -22,7 +22,7 @@ invariant_of-result c =
     let time : cells.time ≡ 0 = ap (λ (s : State Pos). s.time) c.begin.ensures.start in
     record {
       numbered = c.count.ensures.numbered;
-      shown = c.in_ok-outputs.ensures;
+      shown = c.in_ok-outlets.ensures;
       playing = record {
         wired = c.in_ok-wiring.ensures;
         holding = c.begin.ensures.holding;

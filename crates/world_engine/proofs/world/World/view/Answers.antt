@@ -1,4 +1,4 @@
-use Rattle.std.proofs.Common.{◌≤◌, List, ap, ◌∙◌}
+use Rattle.std.proofs.Common.{◌≤◌, ap, ◌∙◌}
 use Rattle.std.proofs.lemmas.List.Elements.{All-same}
 use Rattle.std.proofs.Common.{map}
 use Rattle.circuit.specs.Circuit.{view}
