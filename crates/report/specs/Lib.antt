@@ -4,6 +4,7 @@ pub mod Header
 pub mod ViewLine
 pub mod Trailers
 pub mod BenchText
+pub mod CheckedText
 pub mod FireLine
 pub mod RunLines
 pub mod FaultLine

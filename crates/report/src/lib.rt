@@ -10,6 +10,7 @@ use rp_text::NoMemory;
 use schematic::BuildRefusal;
 use script::ScriptRefusal;
 
+mod checked;
 mod faults;
 mod fires;
 mod header;
@@ -18,6 +19,7 @@ mod summary;
 mod trailers;
 mod views;
 
+pub use checked::push_checked;
 pub use faults::push_fault;
 pub use fires::push_fire;
 pub use header::push_header;
