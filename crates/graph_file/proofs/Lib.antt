@@ -1,2 +1,17 @@
+pub mod Turns
+pub mod SpotSteps
+pub mod NodeSteps
+pub mod ValueCauses
+pub mod KeyBounds
+pub mod ValueSteps
+pub mod CauseSteps
+pub mod Rounds
+pub mod SeenSteps
+pub mod LinkingSteps
+pub mod SoundFile
+pub mod SendSteps
 pub mod PackedLaw
 pub mod TargetSteps
+pub mod ReadBack
+pub mod TextBack
+pub mod FileBack

@@ -56,13 +56,13 @@ packed_past renumber from zero (Some node ∷ g) h = absurd (omega arith)
 packed_past renumber from (suc n) (Some node ∷ g) h = packed_past renumber (suc from) n g (omega arith)
 
 -- The number of a key that lives.
-record LivesAt (from next k : ℕ) (g : Nodes) : Type 0 where
-  n : ℕ
-  few : n < length (keys_from from g)
-  is_key : get_or (keys_from from g) n 0 ≡ from + k
-  numbered : get_or (numbers_from next g) k 0 ≡ next + n
+pub record LivesAt (from next k : ℕ) (g : Nodes) : Type 0 where
+  pub n : ℕ
+  pub few : n < length (keys_from from g)
+  pub is_key : get_or (keys_from from g) n 0 ≡ from + k
+  pub numbered : get_or (numbers_from next g) k 0 ≡ next + n
 
-lives_at : (from next k : ℕ) (g : Nodes) (node : Node) → node_at g k ≡ Some node → LivesAt from next k g
+pub lives_at : (from next k : ℕ) (g : Nodes) (node : Node) → node_at g k ≡ Some node → LivesAt from next k g
 lives_at from next k [] node h = absurd (cc)
 lives_at from next zero (None ∷ g) node h = absurd (cc)
 lives_at from next zero (Some first ∷ g) node h =

@@ -1,4 +1,11 @@
 pub use Rattle.graph.specs.Graph
 pub use Rattle.graph.specs.Sound
+pub mod Reading
+pub mod GraphFile
 pub mod Json
 pub mod Targets
+pub mod Sending
+pub mod Entries
+pub mod Ranged
+pub mod Steps
+pub mod FitsFile

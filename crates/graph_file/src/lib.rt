@@ -1,7 +1,15 @@
-//! Graph files: a graph as JSON.
+//! Graph files: a graph as JSON, and the graph that JSON means.
 #![tactic(auto)]
 
+mod entries;
 pub mod laws;
+mod ranges;
+mod reading;
 mod targets;
+#[cfg(test)]
+mod tests;
+mod writing;
 
+pub use reading::{from_bytes, from_value};
 pub use targets::GraphTargets;
+pub use writing::{to_text, to_value};
