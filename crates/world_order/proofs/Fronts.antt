@@ -51,51 +51,67 @@ text_more b marks {s} {mid} (Ticked {next} {fires} {steps = done} {order} {views
     ap (λ x. flat_map fire_line fires ++ (line ++ x)) q ∙ ap (λ x. flat_map fire_line fires ++ x) (sym (append_assoc line S M)) ∙ sym (append_assoc (flat_map fire_line fires) (line ++ S) M)
 
 -- one step more, with this text
-step_on : (b : Plan) (script : Meaning) (done left : List Step) (step : Step) (mid next : State Pos) (front : List ℕ) (tick : ℕ) → (h : HasRun b script done (step ∷ left) mid front tick) →
+step_with : (b : Plan) (script : Meaning) (done left : List Step) (step : Step) (mid next : State Pos) (front : List ℕ) (tick : ℕ) → (h : HasRun b script done (step ∷ left) mid front tick) →
     (order2 : List (List Pos)) → Run (world_circuit b script.marks) mid (step ∷ []) order2 (view (world_circuit b script.marks) next ∷ []) next →
     (text : List ℕ) → text ≡ steps_text mid.time (step ∷ []) order2 (view (world_circuit b script.marks) next ∷ []) → (now : ℕ) → now ≡ length (h.order ++ order2) →
-    HasRun b script (done ++ (step ∷ [])) left next (front ++ text) now
-step_on b script done left step mid next front tick h order2 run text e now count =
+    (r : HasRun b script (done ++ (step ∷ [])) left next (front ++ text) now) × (r.order ≡ h.order ++ order2)
+step_with b script done left step mid next front tick h order2 run text e now count =
     let C = world_circuit b script.marks in
     let shown : List ℕ = view C next in
     let head : List ℕ = header (outputs b script.marks) in
     let line : List ℕ = view_line 0 Start (view C (start C)) in
     let S : List ℕ = steps_text 0 done h.order h.views in
-    let M : List ℕ = steps_text mid.time (step ∷ []) order2 (shown ∷ []) in
-    record {
-      order = h.order ++ order2;
-      views = h.views ++ (shown ∷ []);
-      steps = h.steps ∙ sym (append_assoc done (step ∷ []) left);
-      run = run_then h.run run;
-      is = ap (λ x. x ++ text) h.is ∙ append_assoc head (line ++ S) text ∙ ap (λ x. head ++ x) (append_assoc line S text) ∙ ap (λ x. head ++ (line ++ (S ++ x))) e
-          ∙ ap (λ x. head ++ (line ++ x)) (sym (text_more b script.marks h.run (step ∷ []) order2 (shown ∷ [])));
-      count = count;
-    }
+    let M : List ℕ = steps_text mid.time (step ∷ []) order2 (shown ∷ []) in (
+      record {
+        order = h.order ++ order2;
+        views = h.views ++ (shown ∷ []);
+        steps = h.steps ∙ sym (append_assoc done (step ∷ []) left);
+        run = run_then h.run run;
+        is = ap (λ x. x ++ text) h.is ∙ append_assoc head (line ++ S) text ∙ ap (λ x. head ++ x) (append_assoc line S text) ∙ ap (λ x. head ++ (line ++ (S ++ x))) e
+            ∙ ap (λ x. head ++ (line ++ x)) (sym (text_more b script.marks h.run (step ∷ []) order2 (shown ∷ [])));
+        count = count;
+      },
+      refl,
+    )
+
+-- the step of a click, whose firing lists are those before
+pub click_with : (b : Plan) (script : Meaning) (done left : List Step) (place : Pos) (click : Click) (mid next : State Pos) (front : List ℕ) (tick : ℕ) →
+    (h : HasRun b script done (ClickAt place click ∷ left) mid front tick) → Clicks (world_circuit b script.marks) place click mid next →
+    (r : HasRun b script (done ++ (ClickAt place click ∷ [])) left next (front ++ view_line next.time (cause_of click) (view (world_circuit b script.marks) next)) tick) × (r.order ≡ h.order ++ [])
+click_with b script done left place click mid next front tick h hit =
+    let C = world_circuit b script.marks in
+    let line : ℕ → List ℕ = λ n. view_line n (cause_of click) (view C next) in
+    let time : next.time ≡ mid.time = ap (λ (x : State Pos). x.time) hit.after in
+    step_with b script done left (ClickAt place click) mid next front tick h [] (Clicked hit Ended) (line next.time) (ap line time ∙ sym (append-nil (line mid.time))) tick
+    (h.count ∙ ap length (sym (append-nil h.order)))
 
 pub click_on : (b : Plan) (script : Meaning) (done left : List Step) (place : Pos) (click : Click) (mid next : State Pos) (front : List ℕ) (tick : ℕ) →
     HasRun b script done (ClickAt place click ∷ left) mid front tick → Clicks (world_circuit b script.marks) place click mid next →
     HasRun b script (done ++ (ClickAt place click ∷ [])) left next (front ++ view_line next.time (cause_of click) (view (world_circuit b script.marks) next)) tick
-click_on b script done left place click mid next front tick h hit =
-    let C = world_circuit b script.marks in
-    let line : ℕ → List ℕ = λ n. view_line n (cause_of click) (view C next) in
-    let time : next.time ≡ mid.time = ap (λ (x : State Pos). x.time) hit.after in
-    step_on b script done left (ClickAt place click) mid next front tick h [] (Clicked hit Ended) (line next.time) (ap line time ∙ sym (append-nil (line mid.time))) tick
-    (h.count ∙ ap length (sym (append-nil h.order)))
+click_on b script done left place click mid next front tick h hit = (click_with b script done left place click mid next front tick h hit).0
 
 length_one : (xs : List (List Pos)) (x : List Pos) → length (xs ++ (x ∷ [])) ≡ length xs + 1
 length_one [] x = refl
 length_one (y ∷ xs) x = let r : length (xs ++ (x ∷ [])) ≡ length xs + 1 = length_one xs x in omega arith
 
+-- that of a tick, with one list more
+pub tick_with : (b : Plan) (script : Meaning) (done left : List Step) (mid : State Pos) (fired : List Pos) (before : List ℕ) (tick : ℕ) →
+    (h : HasRun b script done (OneTick ∷ left) mid before tick) → IsFiringList (world_circuit b script.marks) (later mid) fired →
+    (r : HasRun b script (done ++ (OneTick ∷ [])) left (fire_all (world_circuit b script.marks) (later mid) fired)
+    (before ++ (flat_map fire_line fired ++ view_line (mid.time + 1) Tick (view (world_circuit b script.marks) (fire_all (world_circuit b script.marks) (later mid) fired)))) (tick + 1))
+    × (r.order ≡ h.order ++ (fired ∷ []))
+tick_with b script done left mid fired before tick h f =
+    let C = world_circuit b script.marks in
+    let next : State Pos = fire_all C (later mid) fired in
+    let line : List ℕ = view_line (mid.time + 1) Tick (view C next) in
+    step_with b script done left OneTick mid next before tick h (fired ∷ []) (Ticked (record { order = f; after = refl }) Ended) (flat_map fire_line fired ++ line)
+    (ap (λ x. flat_map fire_line fired ++ x) (sym (append-nil line))) (tick + 1) (ap (λ n. n + 1) h.count ∙ sym (length_one h.order fired))
+
 pub tick_on : (b : Plan) (script : Meaning) (done left : List Step) (mid : State Pos) (fired : List Pos) (before : List ℕ) (tick : ℕ) →
     HasRun b script done (OneTick ∷ left) mid before tick → IsFiringList (world_circuit b script.marks) (later mid) fired →
     HasRun b script (done ++ (OneTick ∷ [])) left (fire_all (world_circuit b script.marks) (later mid) fired)
     (before ++ (flat_map fire_line fired ++ view_line (mid.time + 1) Tick (view (world_circuit b script.marks) (fire_all (world_circuit b script.marks) (later mid) fired)))) (tick + 1)
-tick_on b script done left mid fired before tick h f =
-    let C = world_circuit b script.marks in
-    let next : State Pos = fire_all C (later mid) fired in
-    let line : List ℕ = view_line (mid.time + 1) Tick (view C next) in
-    step_on b script done left OneTick mid next before tick h (fired ∷ []) (Ticked (record { order = f; after = refl }) Ended) (flat_map fire_line fired ++ line)
-    (ap (λ x. flat_map fire_line fired ++ x) (sym (append-nil line))) (tick + 1) (ap (λ n. n + 1) h.count ∙ sym (length_one h.order fired))
+tick_on b script done left mid fired before tick h f = (tick_with b script done left mid fired before tick h f).0
 
 pub fire_on : (b : Plan) (script : Meaning) (front : List ℕ) (tick : ℕ) (s : State Pos) (fired : List Pos) (key : Pos) →
     InTick b script front tick s fired → IsNext (world_circuit b script.marks) (fire_all (world_circuit b script.marks) s fired) key →

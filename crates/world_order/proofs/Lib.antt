@@ -3,4 +3,17 @@ pub mod Texts
 pub mod Following
 pub mod NoBadLine
 pub mod Fronts
+pub mod Numbers
 pub mod Expecting
+pub mod Pieces
+pub mod Telling
+pub mod Ticking
+pub mod Headings
+pub mod HeaderSteps
+pub mod Naming
+pub mod Scripts
+pub mod Steps
+pub mod Firings
+pub mod Ending
+pub mod Playing
+pub mod Refusing

@@ -34,20 +34,20 @@ cut c (x ∷ xs) (y ∷ ys) X Y a b e =
     let r = cut c xs ys X Y a.1 b.1 (tail_same x y (xs ++ (c ∷ X)) (ys ++ (c ∷ Y)) e) in
     (ap₂ (λ one more. one ∷ more) (head_same x y (xs ++ (c ∷ X)) (ys ++ (c ∷ Y)) e) r.0, r.1)
 
-digits_lack : (c : ℕ) → is_ascii_digit c ≡ false → (ds : List ℕ) → list_all is_ascii_digit ds ≡ true → Lacks c ds
+pub digits_lack : (c : ℕ) → is_ascii_digit c ≡ false → (ds : List ℕ) → list_all is_ascii_digit ds ≡ true → Lacks c ds
 digits_lack c other [] h = tt
 digits_lack c other (d ∷ ds) h =
     let p = and_parts (is_ascii_digit d) (list_all is_ascii_digit ds) h in
     (λ e. false≢true (sym other ∙ ap is_ascii_digit (sym e) ∙ p.0), digits_lack c other ds p.1)
 
-number_lacks : (c n : ℕ) → is_ascii_digit c ≡ false → n < 2 ^ 32 → Lacks c (decimal n)
+pub number_lacks : (c n : ℕ) → is_ascii_digit c ≡ false → n < 2 ^ 32 → Lacks c (decimal n)
 number_lacks c n other small = digits_lack c other (decimal n) (HasPlainDigits-decimal n (omega arith)).digits
 
 number_same : (m n : ℕ) → m < 2 ^ 32 → n < 2 ^ 32 → decimal m ≡ decimal n → m ≡ n
 number_same m n a b e = let both : Some m ≡ Some n = sym (u32_of-decimal m a) ∙ ap u32_of e ∙ u32_of-decimal n b in cc
 
 -- a line of a firing and what stands behind it
-fire_text : (x y z : ℕ) (X : List ℕ) →
+pub fire_text : (x y z : ℕ) (X : List ℕ) →
     fire_line (record { x = pos x; y = pos y; z = pos z }) ++ X ≡ codes "fire " ++ (decimal x ++ (32 ∷ (decimal y ++ (32 ∷ (decimal z ++ (10 ∷ X))))))
 unfolding fire_line place_text
 fire_text x y z X = ap (λ rest. codes "fire " ++ rest) (three (decimal x) (decimal y) (decimal z))

@@ -3,8 +3,16 @@
 
 use report::OrderKind;
 
+mod checking;
+mod front;
 pub mod laws;
-pub mod reading;
+mod lines;
+mod take;
+#[cfg(test)]
+mod tests;
+mod tick;
+
+pub use checking::check;
 
 /// What a text of an order that was taken has: so many ticks and firings.
 #[derive(Clone, Copy, Debug, PartialEq, Eq)]
