@@ -1,4 +1,6 @@
 """The compiled graph of a build, by what docs/REDSTONE.md says of compiled graphs, and as a circuit."""
+import json
+
 from redstone import COMPONENTS, SHOWN, SIDES, Circuit, Part, Shape, order_of, out, step
 
 FARTHEST = 15
@@ -47,6 +49,18 @@ class Node(Part):
         if self.pending:
             words += ["due", self.pending[0], "priority", self.pending[1]]
         return " ".join(map(str, words))
+
+    def json(self):
+        due, priority = self.pending or (0, 0)
+        told = {"also": self.also, "at": self.place, "due": due, "first": self.is_first,
+                "kind": self.kind, "priority": priority, "state": self.value}
+        if self.kind in ("repeater", "button"):
+            told["delay"] = self.ticks
+        if self.kind == "comparator":
+            told["subtract"] = self.is_subtracting
+            told.update({key: value for key, value in (("direct", self.direct), ("far", self.far))
+                         if value is not None})
+        return told
 
 
 class Graph:
@@ -214,7 +228,8 @@ class Graph:
             for link in node.all_links():
                 if link.source == second:
                     link.source = first
-        del self.nodes[second]
+        gone = self.nodes.pop(second)
+        self.nodes[first].also += [gone.place, *gone.also]
 
     def prune(self):
         kept, waiting = set(), [number for number, node in self.nodes.items()
@@ -241,6 +256,16 @@ class Graph:
             for group, links in node.links.items():
                 for link in links:
                     yield f"link {link.source} {node.number} {group} {link.weight}"
+
+    def json(self):
+        """The graph file: the nodes anew from 0, in the order of their numbers."""
+        number = {old: new for new, old in enumerate(self.nodes)}
+        links = [[number[link.source], number[node.number], int(group == "side"), link.weight]
+                 for node in self.nodes.values() for group, links in node.links.items()
+                 for link in links]
+        nodes = [node.json() for node in self.nodes.values()]
+        return json.dumps({"redpile": 1, "nodes": nodes, "links": links}, sort_keys=True,
+                          separators=(",", ":"))
 
 
 class Machine(Circuit):
@@ -275,8 +300,8 @@ class Machine(Circuit):
         is_wire = self.parts[number].kind == "wire"
         return self.back(number) if is_wire else self.values[number]
 
-    def run(self, acts):
-        yield from self.play(acts)
+    def run(self, acts, tells_order=False):
+        yield from self.play(acts, tells_order)
         links = sum(len(node.all_links()) for node in self.parts.values())
         yield f"nodes {len(self.parts)} links {links} events {self.events}"
         yield "end"

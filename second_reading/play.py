@@ -2,8 +2,9 @@
 """Prints what the program should print, by a second reading of the rules.
 
 play.py world BUILD SCRIPT
-play.py compile BUILD SCRIPT [--raw] [--keep]
-play.py run BUILD SCRIPT [--graph] [--keep]
+play.py compile BUILD SCRIPT [--raw] [--keep] [--json]
+play.py run BUILD SCRIPT [--graph] [--keep [--order]]
+play.py check BUILD SCRIPT ORDER
 
 The words are those of the program; --raw leaves out all passes. This reads docs/REDSTONE.md and
 docs/BLOCKS.md a second time, and was written without a look at how the program plays and compiles.
@@ -21,6 +22,7 @@ import sys
 sys.dont_write_bytecode = True
 
 from graph import Graph, Machine
+from order import Refused, check
 from redstone import ORDERS, Build, read_script
 from world import World
 
@@ -30,21 +32,25 @@ def texts_of(words):
     build, (acts, marks) = Build(words.build), read_script(words.script)
     if words.command == "world":
         return [[*World(build, marks, order).play(acts), "end"] for order in ORDERS]
+    if words.command == "check":
+        with open(words.order_text, encoding="latin-1", newline="") as file:
+            return [check(World(build, marks, "added"), acts, file.read())]
     graph = Graph(build, marks)
     if not words.raw:
         graph.compile(words.keep)
     if words.command == "compile":
-        return [[*graph.text(), "end"]]
+        return [[graph.json()]] if words.json else [[*graph.text(), "end"]]
     front = list(graph.text()) if words.graph else []
-    return [front + list(Machine(graph.nodes, order).run(acts)) for order in ORDERS]
+    return [front + list(Machine(graph.nodes, order).run(acts, words.order)) for order in ORDERS]
 
 
 def words_of(arguments):
     words = argparse.ArgumentParser()
-    words.add_argument("command", choices=("world", "compile", "run"))
+    words.add_argument("command", choices=("world", "compile", "run", "check"))
     words.add_argument("build")
     words.add_argument("script")
-    for word in ("--raw", "--keep", "--graph"):
+    words.add_argument("order_text", nargs="?")
+    for word in ("--raw", "--keep", "--graph", "--json", "--order"):
         words.add_argument(word, action="store_true")
     return words.parse_args(arguments)
 
@@ -57,7 +63,11 @@ def are_alike(lines, others):
 
 
 def main():
-    lines, *others = texts_of(words_of(sys.argv[1:]))
+    try:
+        lines, *others = texts_of(words_of(sys.argv[1:]))
+    except Refused as refused:
+        print(f"redpile: {refused}", file=sys.stderr)
+        sys.exit(8)
     print("\n".join(lines))
     if not all(are_alike(lines, other) for other in others):
         sys.exit("play: another order of due ticks gives other views")

@@ -255,7 +255,7 @@ class Part:
                          and front.facing != OPPOSITE[block.facing])
         self.ticks = {"button": 10 if "stone" in block.name else 15, "lamp": 2,
                       "repeater": block.number("delay", 1)}.get(block.kind, 1)
-        self.value = stored(build, place)
+        self.value, self.also = stored(build, place), []
 
     def priority(self, value):
         if self.kind == "repeater":
@@ -287,6 +287,7 @@ class Circuit:
         self.values = {key: part.value for key, part in parts.items()}
         self.outputs = sorted(outputs, key=lambda key: order_of(parts[key].place))
         self.time = self.events = 0
+        self.fired = []
         self.settle()
 
     def solve(self):
@@ -326,6 +327,7 @@ class Circuit:
         goal, is_locked, value = self.goal(key), self.is_locked(key), self.values[key]
         kind = self.parts[key].kind
         del self.waits[key]
+        self.fired.append(key)
         if kind in ("torch", "comparator"):
             self.values[key] = goal
         elif kind == "repeater" and not is_locked:
@@ -339,6 +341,7 @@ class Circuit:
 
     def tick(self):
         self.time += 1
+        self.fired = []
         keys = [key for key in self.waits if self.waits[key][0] == self.time]
         if self.order != "added":
             keys.sort(key=lambda key: order_of(self.parts[key].place),
@@ -362,16 +365,23 @@ class Circuit:
     def view(self, cause):
         return " ".join(map(str, [self.time, cause] + [self.shown(key) for key in self.outputs]))
 
-    def play(self, acts):
-        """The header, and a view after the start, each click and each tick."""
+    def header(self):
         yield f"outputs {len(self.outputs)}"
         for part in (self.parts[key] for key in self.outputs):
             yield " ".join(map(str, part.place)) + " " + part.kind
+
+    def play(self, acts, tells_order=False):
+        """The header, and a view after the start, each click and each tick, with what fired before."""
+        yield from self.header()
         yield self.view("start")
         for word, numbers in acts:
             if word == "tick":
                 for _ in range(numbers[0]):
                     self.tick()
+                    if tells_order:
+                        for key in self.fired:
+                            for place in [self.parts[key].place, *self.parts[key].also]:
+                                yield "fire {} {} {}".format(*place)
                     yield self.view("tick")
             else:
                 self.click(word, tuple(numbers[:3]), numbers[3] if numbers[3:] else None)

@@ -1,11 +1,9 @@
 -- What the commands of the compiler write.
-use Rattle.std.proofs.Common.{◌≡◌, ℕ, ◌+◌, ◌≤◌, Result, Ok, Err, Bool, true, false, List, [], ◌∷◌, ◌++◌, map, Option, refl, sym, ap, subst, ◌∙◌, append_assoc}
+use Rattle.std.proofs.Common.{◌≡◌, ℕ, ◌+◌, ◌≤◌, Ok, Err, Bool, true, false, List, [], ◌∷◌, ◌++◌, map, Option, refl, sym, ap, subst, ◌∙◌}
 use Rattle.std.specs.List.{flat_map}
 use Rattle.std.proofs.lemmas.Grind.{flat_map-append}
 use Rattle.circuit.specs.declared.Act.{Act}
-use Rattle.circuit.specs.declared.Pos.{Pos}
 use Rattle.circuit.specs.declared.Step.{Step}
-use Rattle.circuit.specs.declared.Step.TheVariants.{Click as ClickAt, Tick as OneTick}
 use Rattle.circuit.specs.Circuit.{Circuit, State, start, view}
 use Rattle.circuit.specs.Shows.{Run, Ended, Clicked, Ticked, Plays, steps_of}
 use Rattle.circuit.specs.Taken.{EachActTaken}

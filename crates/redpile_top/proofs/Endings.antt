@@ -1,6 +1,7 @@
 -- What an ending says of the status that it gives.
 use Rattle.std.proofs.Common.{◌≡◌, ◌⊎◌, ◌≤◌, inl, inr, ℕ, true, false, List, length, refl, sym, ap, subst, ◌∙◌, arith, Option, Some, None, Result, Ok, Err, OnOk, OnErr}
 use Rattle.std.proofs.lemmas.Bool.{cases_Bool}
+use Rattle.circuit.specs.declared.Pos.{Pos}
 use Rattle.build.specs.Plan.{Plan}
 use Rattle.schematic.specs.File.{Refusal, unknown_block, file, is_own, plain_refusal, IsFirstRefusal}
 use Rattle.schematic.proofs.Verdicts.{same_build, not_both, one_cause}
@@ -13,14 +14,15 @@ use Rattle.report.specs.declared.Fault.TheVariants.{Usage as UsageFault, Read, W
 use Rattle.report.specs.declared.GraphRefusal.{GraphRefusal}
 use Rattle.report.specs.declared.GraphRefusal.TheVariants.{Json, Whole, Node as NodeRefusal, Link as LinkRefusal, NoMemory as NoMemoryOfGraph}
 use Rattle.rp_io.specs.Causes.{Rose, HasCause, Wrote, WrotePrefix}
+use Rattle.redpile_top.specs.declared.form.Command.{Command}
 use Rattle.redpile_top.specs.declared.form.Form.{Form}
-use Rattle.redpile_top.specs.declared.form.Form.TheVariants.{OnBuild, Bench}
+use Rattle.redpile_top.specs.declared.form.Form.TheVariants.{OnBuild, Check, Bench}
 use Rattle.redpile_top.specs.declared.status.Status.{Status}
 use Rattle.redpile_top.specs.declared.status.Status.TheVariants.{Done, Usage, ReadFault, WriteFault, BadBuild, BadBlock, BadScript, BadOrder, NoMemory, BadGraph}
 use Rattle.redpile_top.specs.Forms.{word}
-use Rattle.redpile_top.specs.Files.{Told, IsBuild, is_block, IsBadBuild, IsBadBlock, Tests, tests_of, IsScript, IsBadScript}
-use Rattle.redpile_top.specs.Ends.{Ran, UnreadFaults, FaultsOf, IsBuildOf, BuildCause, ScriptCause, BeganForm, OnWriteFault, ButForWrites}
-use Rattle.redpile_top.specs.Clauses.{IsBadScriptFor, Exactly, BuildClause, BlockClause, ScriptClause, DoneClause, FrontClause, CompleteClause, status_of, status_of_cause, status_of_script, status_of_graph}
+use Rattle.redpile_top.specs.Files.{Told, OnTold, IsBuild, is_block, IsBadBuild, IsBadBlock, Tests, tests_of, IsScript, IsBadScript, IsOrderFile, IsBadOrder}
+use Rattle.redpile_top.specs.Ends.{Ran, Accepted, BuildFaults, CheckFaults, UnreadFaults, FaultsOf, IsBuildOf, BuildCause, ScriptCause, BeganForm, OnWriteFault, ButForWrites}
+use Rattle.redpile_top.specs.Clauses.{IsBadScriptFor, IsBadOrderFor, Exactly, BuildClause, BlockClause, ScriptClause, OrderClause, FrontClause, CompleteClause, status_of, status_of_cause, status_of_script, status_of_graph}
 
 -- ---- what excludes what
 
@@ -138,24 +140,119 @@ module _ (b s : Option (List ℕ)) where
   complete_by (Line line kind) cause build script build_bytes bytes is_b is_s good fit = absurd (not_bad_script_for build_bytes bytes build script good fit (line_of line kind cause build_bytes bytes is_b is_s))
   complete_by NoMemoryOfScript cause build script build_bytes bytes is_b is_s good fit = inr (inr (inr refl))
 
+-- where build and script are accepted, no status tells that one of them is bad
+module _ (b s : Option (List ℕ)) (build : Plan) (script : Meaning) (accepted : Accepted (IsBuildOf b) tests_of s build script) (status : Status) where
+  build_accepted : (status ≡ BadBuild → ⊥) → OnTold b (λ bytes. Exactly (IsBadBuild bytes) BadBuild status)
+  build_accepted h = λ bytes is. never (IsBadBuild bytes) BadBuild status h (not_bad_build bytes build (accepted.good bytes is))
+
+  block_accepted : (status ≡ BadBlock → ⊥) → OnTold b (λ bytes. Exactly (IsBadBlock bytes) BadBlock status)
+  block_accepted h = λ bytes is. never (IsBadBlock bytes) BadBlock status h (not_bad_block bytes build (accepted.good bytes is).is)
+
+  script_accepted : (status ≡ BadScript → ⊥) → OnTold b (λ build_bytes. OnTold s (λ bytes. Exactly (IsBadScriptFor build_bytes bytes) BadScript status))
+  script_accepted h = λ build_bytes is_b bytes is_s. never (IsBadScriptFor build_bytes bytes) BadScript status h
+      (not_bad_script_for build_bytes bytes build script (accepted.good build_bytes is_b) (accepted.script_is bytes is_s))
+
+-- ---- over a build and a script, by the fault
+
+module _ (b s : Option (List ℕ)) (reading writing : Type 0) where
+  -- what is done was done for an accepted build and script
+  abbrev Began : Fault → Type 0
+  Began fault = OnWriteFault (Err fault) ((build : Plan) × (script : Meaning) × Accepted (IsBuildOf b) tests_of s build script)
+
+  build_over : (fault : Fault) → BuildFaults b s reading writing fault → Began fault → OnTold b (λ bytes. Exactly (IsBadBuild bytes) BadBuild (status_of fault))
+  build_over Read cause began = λ bytes is. by_read (IsBadBuild bytes) BadBuild (λ e. cc)
+  build_over Write cause began = build_accepted b s began.0 began.1 began.2 WriteFault (λ e. cc)
+  build_over (BuildFault refusal) cause began = build_by b (plain_refusal refusal) cause
+  build_over BuildTooLong cause began = λ bytes is. here (IsBadBuild bytes) BadBuild (inl (cause bytes is))
+  build_over (ScriptFault refusal) cause began = build_by_script b s refusal cause
+  build_over ScriptTooLong cause began = λ bytes is. never (IsBadBuild bytes) BadBuild BadScript (λ e. cc) (not_bad_build bytes cause.target (cause.good bytes is))
+  build_over Memory cause began = λ bytes is. by_memory (IsBadBuild bytes) BadBuild (λ e. cc)
+  build_over _ cause began = absurd cause
+
+  block_over : (fault : Fault) → BuildFaults b s reading writing fault → Began fault → OnTold b (λ bytes. Exactly (IsBadBlock bytes) BadBlock (status_of fault))
+  block_over Read cause began = λ bytes is. by_read (IsBadBlock bytes) BadBlock (λ e. cc)
+  block_over Write cause began = block_accepted b s began.0 began.1 began.2 WriteFault (λ e. cc)
+  block_over (BuildFault refusal) cause began = block_by b (plain_refusal refusal) cause
+  block_over BuildTooLong cause began = λ bytes is. never (IsBadBlock bytes) BadBlock BadBuild (λ e. cc) (λ bad. let within = bad.within in let long = cause bytes is in omega arith)
+  block_over (ScriptFault refusal) cause began = block_by_script b s refusal cause
+  block_over ScriptTooLong cause began = λ bytes is. never (IsBadBlock bytes) BadBlock BadScript (λ e. cc) (not_bad_block bytes cause.target (cause.good bytes is).is)
+  block_over Memory cause began = λ bytes is. by_memory (IsBadBlock bytes) BadBlock (λ e. cc)
+  block_over _ cause began = absurd cause
+
+  script_over : (fault : Fault) → BuildFaults b s reading writing fault → Began fault →
+      OnTold b (λ build_bytes. OnTold s (λ bytes. Exactly (IsBadScriptFor build_bytes bytes) BadScript (status_of fault)))
+  script_over Read cause began = λ build_bytes is_b bytes is_s. by_read (IsBadScriptFor build_bytes bytes) BadScript (λ e. cc)
+  script_over Write cause began = script_accepted b s began.0 began.1 began.2 WriteFault (λ e. cc)
+  script_over (BuildFault refusal) cause began = λ build_bytes is_b bytes is_s. script_refused b (plain_refusal refusal) cause build_bytes bytes is_b
+  script_over BuildTooLong cause began = λ build_bytes is_b bytes is_s. never (IsBadScriptFor build_bytes bytes) BadScript BadBuild (λ e. cc)
+      (λ bad. let within = (bad.1).0.within in let long = cause build_bytes is_b in omega arith)
+  script_over (ScriptFault refusal) cause began = λ build_bytes is_b bytes is_s. script_by b s refusal cause build_bytes bytes is_b is_s
+  script_over ScriptTooLong cause began = λ build_bytes is_b bytes is_s. here (IsBadScriptFor build_bytes bytes) BadScript (cause.target, (cause.good build_bytes is_b, inl (cause.holds bytes is_s)))
+  script_over Memory cause began = λ build_bytes is_b bytes is_s. by_memory (IsBadScriptFor build_bytes bytes) BadScript (λ e. cc)
+  script_over _ cause began = absurd cause
+
+  complete_over : (fault : Fault) → BuildFaults b s reading writing fault → (build : Plan) (script : Meaning) (build_bytes bytes : List ℕ) → b ≡ Some build_bytes → s ≡ Some bytes → IsBuild build build_bytes → IsScript (tests_of build) script bytes →
+      (status_of fault ≡ Done) ⊎ ((status_of fault ≡ ReadFault) ⊎ ((status_of fault ≡ WriteFault) ⊎ (status_of fault ≡ NoMemory)))
+  complete_over Read cause = λ build script build_bytes bytes is_b is_s good fit. inr (inl refl)
+  complete_over Write cause = λ build script build_bytes bytes is_b is_s good fit. inr (inr (inl refl))
+  complete_over (BuildFault refusal) cause = λ build script build_bytes bytes is_b is_s good fit. complete_refused b (plain_refusal refusal) cause build build_bytes is_b good
+  complete_over BuildTooLong cause = λ build script build_bytes bytes is_b is_s good fit. absurd (let within = good.within in let long = cause build_bytes is_b in omega arith)
+  complete_over (ScriptFault refusal) cause = λ build script build_bytes bytes is_b is_s good fit. complete_by b s refusal cause build script build_bytes bytes is_b is_s good fit
+  complete_over ScriptTooLong cause = λ build script build_bytes bytes is_b is_s good fit. absurd (let within = fit.within in let long = cause.holds bytes is_s in omega arith)
+  complete_over Memory cause = λ build script build_bytes bytes is_b is_s good fit. inr (inr (inr refl))
+  complete_over _ cause = absurd cause
+
+  -- why an order is bad, or what is wrong before it is read
+  check_cause : (o : Option (List ℕ)) (fault : Fault) → CheckFaults b s o reading writing fault →
+      BuildFaults b s reading writing fault ⊎ ((status_of fault ≡ BadOrder) × ((build : Plan) × (script : Meaning) × Accepted (IsBuildOf b) tests_of s build script × OnTold o (IsBadOrder build script)))
+  check_cause o (Order line tick kind) cause = inr (refl, (cause.build, cause.script, cause.accepted, λ bytes is. inr (cause.holds bytes is).none))
+  check_cause o OrderTooLong cause = inr (refl, (cause.build, cause.script, cause.accepted, λ bytes is. inl (cause.holds bytes is)))
+  check_cause o _ cause = inl cause
+
+-- ---- an order
+
+-- for an accepted build and script with an order no others make it bad
+not_bad_order_for : (build_bytes script_bytes bytes : List ℕ) (build : Plan) (script : Meaning) (order : List (List Pos)) → IsBuild build build_bytes → IsScript (tests_of build) script script_bytes →
+    IsOrderFile build script order bytes → IsBadOrderFor build_bytes script_bytes bytes → ⊥
+not_bad_order_for build_bytes script_bytes bytes build script order good fit is bad =
+    let same : bad.build ≡ build = same_build build_bytes bad.build build bad.is_build.is good.is in
+    let found : IsScript (tests_of build) bad.script script_bytes = subst (λ (b : Plan). IsScript (tests_of b) bad.script script_bytes) same bad.is_script in
+    let both : ◌≡◌ {A = Result Meaning ScriptRefusal} (Ok bad.script) (Ok script) = sym found.is ∙ fit.is in
+    let script_same : bad.script ≡ script = cc in
+    let for_build : IsBadOrder build bad.script bytes = subst (λ (b : Plan). IsBadOrder b bad.script bytes) same bad.bad in
+    let here_bad : IsBadOrder build script bytes = subst (λ (m : Meaning). IsBadOrder build m bytes) script_same for_build in
+    elim here_bad [
+      | inl long ↦ absurd (let within : length bytes ≤ 268435456 = is.within in omega arith)
+      | inr none ↦ absurd (none order is.is)
+    ]
+
 -- ---- the clauses, by the ending
 
 module _ (told : Told) (words : List (List ℕ)) (reading writing untouched : Type 0) (before now : Option (List ℕ)) where
   pub build_done : (form : Option Form) → Ran form told words reading writing untouched before now (Ok tt) → BuildClause form told words Done
   build_done None ran = λ e. cc
   build_done (Some (Bench units)) ran = λ e. cc
-  build_done (Some (OnBuild command)) ran = λ bytes is. never (IsBadBuild bytes) BadBuild Done (λ e. cc) (not_bad_build bytes ran.done.target (ran.done.accepted.good bytes is))
+  build_done (Some Check) ran = build_accepted (told (word words 1)) (told (word words 2)) ran.done.target ran.done.script ran.done.accepted Done (λ e. cc)
+  build_done (Some (OnBuild command)) ran = build_accepted (told (word words 1)) (told (word words 2)) ran.done.target ran.done.script ran.done.accepted Done (λ e. cc)
 
   pub block_done : (form : Option Form) → Ran form told words reading writing untouched before now (Ok tt) → BlockClause form told words Done
   block_done None ran = λ e. cc
   block_done (Some (Bench units)) ran = λ e. cc
-  block_done (Some (OnBuild command)) ran = λ bytes is. never (IsBadBlock bytes) BadBlock Done (λ e. cc) (not_bad_block bytes ran.done.target (ran.done.accepted.good bytes is).is)
+  block_done (Some Check) ran = block_accepted (told (word words 1)) (told (word words 2)) ran.done.target ran.done.script ran.done.accepted Done (λ e. cc)
+  block_done (Some (OnBuild command)) ran = block_accepted (told (word words 1)) (told (word words 2)) ran.done.target ran.done.script ran.done.accepted Done (λ e. cc)
 
   pub script_done : (form : Option Form) → Ran form told words reading writing untouched before now (Ok tt) → ScriptClause form told words Done
   script_done None ran = λ e. cc
   script_done (Some (Bench units)) ran = λ e. cc
-  script_done (Some (OnBuild command)) ran = λ build_bytes is_b bytes is_s. never (IsBadScriptFor build_bytes bytes) BadScript Done (λ e. cc)
-      (not_bad_script_for build_bytes bytes ran.done.target ran.done.script (ran.done.accepted.good build_bytes is_b) (ran.done.accepted.script_is bytes is_s))
+  script_done (Some Check) ran = script_accepted (told (word words 1)) (told (word words 2)) ran.done.target ran.done.script ran.done.accepted Done (λ e. cc)
+  script_done (Some (OnBuild command)) ran = script_accepted (told (word words 1)) (told (word words 2)) ran.done.target ran.done.script ran.done.accepted Done (λ e. cc)
+
+  pub order_done : (form : Option Form) → Ran form told words reading writing untouched before now (Ok tt) → OrderClause form told words Done
+  order_done None ran = λ e. cc
+  order_done (Some (Bench units)) ran = λ e. cc
+  order_done (Some Check) ran = λ build_bytes is_b script_bytes is_s bytes is_o. never (IsBadOrderFor build_bytes script_bytes bytes) BadOrder Done (λ e. cc)
+      (not_bad_order_for build_bytes script_bytes bytes ran.done.target ran.done.script ran.done.wrote.order (ran.done.accepted.good build_bytes is_b) (ran.done.accepted.script_is script_bytes is_s) (ran.done.wrote.is_order bytes is_o))
+  order_done (Some (OnBuild command)) ran = λ e. cc
 
   -- words without a form are Usage
   usage_alone : (fault : Fault) (answer : Status) → (Usage ≡ answer → ⊥) → fault ≡ UsageFault → status_of fault ≡ answer → ⊥
@@ -175,56 +272,52 @@ module _ (told : Told) (words : List (List ℕ)) (reading writing untouched : Ty
   abbrev RanTo : Option Form → Fault → Type 0
   RanTo form fault = Ran form told words reading writing untouched before now (Err fault)
 
+  -- what was begun was begun for an accepted build and script
+  began_on : (command : Command) (fault : Fault) → RanTo (Some (OnBuild command)) fault → Began (told (word words 1)) (told (word words 2)) reading writing fault
+  began_on command Write ran = (ran.front.target, ran.front.script, ran.front.accepted)
+  began_on command _ ran = tt
+
+  began_check : (fault : Fault) → RanTo (Some Check) fault → Began (told (word words 1)) (told (word words 2)) reading writing fault
+  began_check Write ran = (ran.front.target, ran.front.script, ran.front.accepted)
+  began_check _ ran = tt
+
   pub build_failed : (fault : Fault) (form : Option Form) → RanTo form fault → BuildClause form told words (status_of fault)
   build_failed fault None ran = usage_alone fault BadBuild (λ e. cc) ran.caused
   build_failed fault (Some (Bench units)) ran = unread_alone fault BadBuild (λ e. cc) (λ e. cc) ran.caused
-  build_failed Read (Some (OnBuild command)) ran = λ bytes is. by_read (IsBadBuild bytes) BadBuild (λ e. cc)
-  build_failed Write (Some (OnBuild command)) ran = λ bytes is. never (IsBadBuild bytes) BadBuild WriteFault (λ e. cc) (not_bad_build bytes ran.front.target (ran.front.accepted.good bytes is))
-  build_failed (BuildFault refusal) (Some (OnBuild command)) ran = build_by (told (word words 1)) (plain_refusal refusal) ran.caused
-  build_failed BuildTooLong (Some (OnBuild command)) ran = λ bytes is. here (IsBadBuild bytes) BadBuild (inl (ran.caused bytes is))
-  build_failed (ScriptFault refusal) (Some (OnBuild command)) ran = build_by_script (told (word words 1)) (told (word words 2)) refusal ran.caused
-  build_failed ScriptTooLong (Some (OnBuild command)) ran = λ bytes is. never (IsBadBuild bytes) BadBuild BadScript (λ e. cc) (not_bad_build bytes ran.caused.target (ran.caused.good bytes is))
-  build_failed Memory (Some (OnBuild command)) ran = λ bytes is. by_memory (IsBadBuild bytes) BadBuild (λ e. cc)
-  build_failed _ (Some (OnBuild command)) ran = λ bytes is. absurd ran.caused
+  build_failed fault (Some Check) ran = elim (check_cause (told (word words 1)) (told (word words 2)) reading writing (told (word words 3)) fault ran.caused) [
+    | inl cause ↦ build_over (told (word words 1)) (told (word words 2)) reading writing fault cause (began_check fault ran)
+    | inr bad ↦ build_accepted (told (word words 1)) (told (word words 2)) bad.1.0 bad.1.1 bad.1.2 (status_of fault) (λ e. let clash : BadOrder ≡ BadBuild = sym bad.0 ∙ e in cc)
+  ]
+  build_failed fault (Some (OnBuild command)) ran = build_over (told (word words 1)) (told (word words 2)) reading writing fault ran.caused (began_on command fault ran)
 
   pub block_failed : (fault : Fault) (form : Option Form) → RanTo form fault → BlockClause form told words (status_of fault)
   block_failed fault None ran = usage_alone fault BadBlock (λ e. cc) ran.caused
   block_failed fault (Some (Bench units)) ran = unread_alone fault BadBlock (λ e. cc) (λ e. cc) ran.caused
-  block_failed Read (Some (OnBuild command)) ran = λ bytes is. by_read (IsBadBlock bytes) BadBlock (λ e. cc)
-  block_failed Write (Some (OnBuild command)) ran = λ bytes is. never (IsBadBlock bytes) BadBlock WriteFault (λ e. cc) (not_bad_block bytes ran.front.target (ran.front.accepted.good bytes is).is)
-  block_failed (BuildFault refusal) (Some (OnBuild command)) ran = block_by (told (word words 1)) (plain_refusal refusal) ran.caused
-  block_failed BuildTooLong (Some (OnBuild command)) ran = λ bytes is. never (IsBadBlock bytes) BadBlock BadBuild (λ e. cc) (λ bad. let within = bad.within in let long = ran.caused bytes is in omega arith)
-  block_failed (ScriptFault refusal) (Some (OnBuild command)) ran = block_by_script (told (word words 1)) (told (word words 2)) refusal ran.caused
-  block_failed ScriptTooLong (Some (OnBuild command)) ran = λ bytes is. never (IsBadBlock bytes) BadBlock BadScript (λ e. cc) (not_bad_block bytes ran.caused.target (ran.caused.good bytes is).is)
-  block_failed Memory (Some (OnBuild command)) ran = λ bytes is. by_memory (IsBadBlock bytes) BadBlock (λ e. cc)
-  block_failed _ (Some (OnBuild command)) ran = λ bytes is. absurd ran.caused
+  block_failed fault (Some Check) ran = elim (check_cause (told (word words 1)) (told (word words 2)) reading writing (told (word words 3)) fault ran.caused) [
+    | inl cause ↦ block_over (told (word words 1)) (told (word words 2)) reading writing fault cause (began_check fault ran)
+    | inr bad ↦ block_accepted (told (word words 1)) (told (word words 2)) bad.1.0 bad.1.1 bad.1.2 (status_of fault) (λ e. let clash : BadOrder ≡ BadBlock = sym bad.0 ∙ e in cc)
+  ]
+  block_failed fault (Some (OnBuild command)) ran = block_over (told (word words 1)) (told (word words 2)) reading writing fault ran.caused (began_on command fault ran)
 
   pub script_failed : (fault : Fault) (form : Option Form) → RanTo form fault → ScriptClause form told words (status_of fault)
   script_failed fault None ran = usage_alone fault BadScript (λ e. cc) ran.caused
   script_failed fault (Some (Bench units)) ran = unread_alone fault BadScript (λ e. cc) (λ e. cc) ran.caused
-  script_failed Read (Some (OnBuild command)) ran = λ build_bytes is_b bytes is_s. by_read (IsBadScriptFor build_bytes bytes) BadScript (λ e. cc)
-  script_failed Write (Some (OnBuild command)) ran = λ build_bytes is_b bytes is_s. never (IsBadScriptFor build_bytes bytes) BadScript WriteFault (λ e. cc)
-      (not_bad_script_for build_bytes bytes ran.front.target ran.front.script (ran.front.accepted.good build_bytes is_b) (ran.front.accepted.script_is bytes is_s))
-  script_failed (BuildFault refusal) (Some (OnBuild command)) ran = λ build_bytes is_b bytes is_s. script_refused (told (word words 1)) (plain_refusal refusal) ran.caused build_bytes bytes is_b
-  script_failed BuildTooLong (Some (OnBuild command)) ran = λ build_bytes is_b bytes is_s. never (IsBadScriptFor build_bytes bytes) BadScript BadBuild (λ e. cc)
-      (λ bad. let within = (bad.1).0.within in let long = ran.caused build_bytes is_b in omega arith)
-  script_failed (ScriptFault refusal) (Some (OnBuild command)) ran = λ build_bytes is_b bytes is_s. script_by (told (word words 1)) (told (word words 2)) refusal ran.caused build_bytes bytes is_b is_s
-  script_failed ScriptTooLong (Some (OnBuild command)) ran = λ build_bytes is_b bytes is_s. here (IsBadScriptFor build_bytes bytes) BadScript (ran.caused.target, (ran.caused.good build_bytes is_b, inl (ran.caused.holds bytes is_s)))
-  script_failed Memory (Some (OnBuild command)) ran = λ build_bytes is_b bytes is_s. by_memory (IsBadScriptFor build_bytes bytes) BadScript (λ e. cc)
-  script_failed _ (Some (OnBuild command)) ran = λ build_bytes is_b bytes is_s. absurd ran.caused
+  script_failed fault (Some Check) ran = elim (check_cause (told (word words 1)) (told (word words 2)) reading writing (told (word words 3)) fault ran.caused) [
+    | inl cause ↦ script_over (told (word words 1)) (told (word words 2)) reading writing fault cause (began_check fault ran)
+    | inr bad ↦ script_accepted (told (word words 1)) (told (word words 2)) bad.1.0 bad.1.1 bad.1.2 (status_of fault) (λ e. let clash : BadOrder ≡ BadScript = sym bad.0 ∙ e in cc)
+  ]
+  script_failed fault (Some (OnBuild command)) ran = script_over (told (word words 1)) (told (word words 2)) reading writing fault ran.caused (began_on command fault ran)
 
   pub complete_failed : (fault : Fault) (form : Option Form) → RanTo form fault → CompleteClause form told words (status_of fault)
   complete_failed fault None ran = tt
   complete_failed fault (Some (Bench units)) ran = unread_complete fault ran.caused
-  complete_failed Read (Some (OnBuild command)) ran = λ build script build_bytes bytes is_b is_s good fit. inr (inl refl)
-  complete_failed Write (Some (OnBuild command)) ran = λ build script build_bytes bytes is_b is_s good fit. inr (inr (inl refl))
-  complete_failed (BuildFault refusal) (Some (OnBuild command)) ran = λ build script build_bytes bytes is_b is_s good fit. complete_refused (told (word words 1)) (plain_refusal refusal) ran.caused build build_bytes is_b good
-  complete_failed BuildTooLong (Some (OnBuild command)) ran = λ build script build_bytes bytes is_b is_s good fit. absurd (let within = good.within in let long = ran.caused build_bytes is_b in omega arith)
-  complete_failed (ScriptFault refusal) (Some (OnBuild command)) ran = λ build script build_bytes bytes is_b is_s good fit.
-      complete_by (told (word words 1)) (told (word words 2)) refusal ran.caused build script build_bytes bytes is_b is_s good fit
-  complete_failed ScriptTooLong (Some (OnBuild command)) ran = λ build script build_bytes bytes is_b is_s good fit. absurd (let within = fit.within in let long = ran.caused.holds bytes is_s in omega arith)
-  complete_failed Memory (Some (OnBuild command)) ran = λ build script build_bytes bytes is_b is_s good fit. inr (inr (inr refl))
-  complete_failed _ (Some (OnBuild command)) ran = λ build script build_bytes bytes is_b is_s good fit. absurd ran.caused
+  complete_failed fault (Some Check) ran = λ build script order build_bytes script_bytes bytes is_b is_s is_o good fit is.
+      elim (check_cause (told (word words 1)) (told (word words 2)) reading writing (told (word words 3)) fault ran.caused) [
+        | inl cause ↦ complete_over (told (word words 1)) (told (word words 2)) reading writing fault cause build script build_bytes script_bytes is_b is_s good fit
+        | inr bad ↦ absurd (not_bad_order_for build_bytes script_bytes bytes build script order good fit is
+            (record { build = bad.1.0; script = bad.1.1; is_build = bad.1.2.good build_bytes is_b; is_script = bad.1.2.script_is script_bytes is_s; bad = bad.1.3 bytes is_o }))
+      ]
+  complete_failed fault (Some (OnBuild command)) ran = complete_over (told (word words 1)) (told (word words 2)) reading writing fault ran.caused
 
 -- ---- statuses that no refusal of a file stands for
 
@@ -266,24 +359,29 @@ untouched_then Write P h n = absurd (h refl)
 untouched_then _ P h n = n
 
 module _ (told : Told) (words : List (List ℕ)) (reading writing : Type 0) where
-  pub order_failed : (fault : Fault) (form : Option Form) → FaultsOf form told words reading writing fault → status_of fault ≡ BadOrder → ⊥
-  order_failed fault None cause = usage_alone told words reading writing (Unit {0}) None None fault BadOrder (λ e. cc) cause
-  order_failed fault (Some (Bench units)) cause = unread_alone told words reading writing (Unit {0}) None None fault BadOrder (λ e. cc) (λ e. cc) cause
-  order_failed (BuildFault refusal) (Some (OnBuild command)) cause = cause_other BadOrder (λ s. cc) (λ s. cc) (λ s. cc) (plain_refusal refusal)
-  order_failed (ScriptFault refusal) (Some (OnBuild command)) cause = script_other BadOrder (λ s. cc) (λ s. cc) refusal
-  order_failed (Order line tick kind) (Some (OnBuild command)) cause = absurd cause
-  order_failed OrderTooLong (Some (OnBuild command)) cause = absurd cause
-  order_failed (Graph refusal) (Some (OnBuild command)) cause = absurd cause
-  order_failed _ (Some (OnBuild command)) cause = λ e. cc
+  graph_alone : (b s : Option (List ℕ)) (fault : Fault) → BuildFaults b s reading writing fault → status_of fault ≡ BadGraph → ⊥
+  graph_alone b s (BuildFault refusal) cause = cause_other BadGraph (λ s. cc) (λ s. cc) (λ s. cc) (plain_refusal refusal)
+  graph_alone b s (ScriptFault refusal) cause = script_other BadGraph (λ s. cc) (λ s. cc) refusal
+  graph_alone b s (Graph refusal) cause = absurd cause
+  graph_alone b s GraphTooLong cause = absurd cause
+  graph_alone b s _ cause = λ e. cc
+
+  order_alone : (b s : Option (List ℕ)) (fault : Fault) → BuildFaults b s reading writing fault → status_of fault ≡ BadOrder → ⊥
+  order_alone b s (BuildFault refusal) cause = cause_other BadOrder (λ s. cc) (λ s. cc) (λ s. cc) (plain_refusal refusal)
+  order_alone b s (ScriptFault refusal) cause = script_other BadOrder (λ s. cc) (λ s. cc) refusal
+  order_alone b s (Order line tick kind) cause = absurd cause
+  order_alone b s OrderTooLong cause = absurd cause
+  order_alone b s (Graph refusal) cause = absurd cause
+  order_alone b s _ cause = λ e. cc
 
   pub graph_failed : (fault : Fault) (form : Option Form) → FaultsOf form told words reading writing fault → status_of fault ≡ BadGraph → ⊥
   graph_failed fault None cause = usage_alone told words reading writing (Unit {0}) None None fault BadGraph (λ e. cc) cause
   graph_failed fault (Some (Bench units)) cause = unread_alone told words reading writing (Unit {0}) None None fault BadGraph (λ e. cc) (λ e. cc) cause
-  graph_failed (BuildFault refusal) (Some (OnBuild command)) cause = cause_other BadGraph (λ s. cc) (λ s. cc) (λ s. cc) (plain_refusal refusal)
-  graph_failed (ScriptFault refusal) (Some (OnBuild command)) cause = script_other BadGraph (λ s. cc) (λ s. cc) refusal
-  graph_failed (Graph refusal) (Some (OnBuild command)) cause = absurd cause
-  graph_failed GraphTooLong (Some (OnBuild command)) cause = absurd cause
-  graph_failed _ (Some (OnBuild command)) cause = λ e. cc
+  graph_failed fault (Some Check) cause = elim (check_cause (told (word words 1)) (told (word words 2)) reading writing (told (word words 3)) fault cause) [
+    | inl before ↦ graph_alone (told (word words 1)) (told (word words 2)) fault before
+    | inr bad ↦ (λ e. let clash : BadOrder ≡ BadGraph = sym bad.0 ∙ e in cc)
+  ]
+  graph_failed fault (Some (OnBuild command)) cause = graph_alone (told (word words 1)) (told (word words 2)) fault cause
 
 -- the line was written, or a prefix of it
 pub line_written : {T E : Type 0} (r : Result T E) (old new : ℕ) (before now : Option (List ℕ)) (line : List ℕ) → OnOk r (Wrote before now line) → OnErr r (WrotePrefix before now line) → HasCause old new r →
@@ -291,9 +389,48 @@ pub line_written : {T E : Type 0} (r : Result T E) (old new : ℕ) (before now :
 line_written (Ok x) old new before now line all front cause = inl all
 line_written (Err e) old new before now line all front cause = inr (cause.failed, front)
 
+-- a refusal of the build or the script leaves no order that is bad for them
+module _ (b s : Option (List ℕ)) (reading writing : Type 0) (build_bytes script_bytes bytes : List ℕ) (is_b : b ≡ Some build_bytes) (is_s : s ≡ Some script_bytes) where
+  of_bad_build : (told : Option Refusal) → BuildCause b told → Exactly (IsBadOrderFor build_bytes script_bytes bytes) BadOrder (status_of_cause told)
+  of_bad_build None cause = by_memory (IsBadOrderFor build_bytes script_bytes bytes) BadOrder (λ e. cc)
+  of_bad_build (Some r) cause = never (IsBadOrderFor build_bytes script_bytes bytes) BadOrder (status_of_cause (Some r)) (cause_other BadOrder (λ s. cc) (λ s. cc) (λ s. cc) (Some r))
+      (λ bad. not_both build_bytes bad.build r bad.is_build.is (cause build_bytes is_b).1)
+
+  of_bad_script : (refusal : ScriptRefusal) → ScriptCause (IsBuildOf b) tests_of s refusal → Exactly (IsBadOrderFor build_bytes script_bytes bytes) BadOrder (status_of_script refusal)
+  of_bad_script (Line line kind) cause = never (IsBadOrderFor build_bytes script_bytes bytes) BadOrder BadScript (λ e. cc)
+      (λ bad. not_bad_script_for build_bytes script_bytes bad.build bad.script bad.is_build bad.is_script (line_of b s line kind cause build_bytes script_bytes is_b is_s))
+  of_bad_script NoMemoryOfScript cause = by_memory (IsBadOrderFor build_bytes script_bytes bytes) BadOrder (λ e. cc)
+
 module _ (told : Told) (words : List (List ℕ)) (reading writing untouched : Type 0) (before now : Option (List ℕ)) where
   pub front_failed : (fault : Fault) (form : Option Form) → Ran form told words reading writing untouched before now (Err fault) → FrontClause form told words before now (status_of fault)
   front_failed fault form ran = λ e. write_alone fault (λ f. OnWriteFault (Err f) (BeganForm form told words before now) → BeganForm form told words before now) (λ part. part) e ran.front
 
   pub nothing_failed : (fault : Fault) (form : Option Form) → Ran form told words reading writing untouched before now (Err fault) → (status_of fault ≡ WriteFault → ⊥) → untouched
   nothing_failed fault form ran h = untouched_then fault untouched h ran.nothing
+
+  -- an order that was begun to be told of is none that is bad
+  order_over : (fault : Fault) → BuildFaults (told (word words 1)) (told (word words 2)) reading writing fault → Ran (Some Check) told words reading writing untouched before now (Err fault) →
+      (build_bytes script_bytes bytes : List ℕ) → told (word words 1) ≡ Some build_bytes → told (word words 2) ≡ Some script_bytes → told (word words 3) ≡ Some bytes → Exactly (IsBadOrderFor build_bytes script_bytes bytes) BadOrder (status_of fault)
+  order_over Read cause ran build_bytes script_bytes bytes is_b is_s is_o = by_read (IsBadOrderFor build_bytes script_bytes bytes) BadOrder (λ e. cc)
+  order_over Memory cause ran build_bytes script_bytes bytes is_b is_s is_o = by_memory (IsBadOrderFor build_bytes script_bytes bytes) BadOrder (λ e. cc)
+  order_over Write cause ran build_bytes script_bytes bytes is_b is_s is_o = never (IsBadOrderFor build_bytes script_bytes bytes) BadOrder WriteFault (λ e. cc)
+      (not_bad_order_for build_bytes script_bytes bytes ran.front.target ran.front.script ran.front.wrote.order (ran.front.accepted.good build_bytes is_b) (ran.front.accepted.script_is script_bytes is_s) (ran.front.wrote.is_order bytes is_o))
+  order_over (BuildFault refusal) cause ran build_bytes script_bytes bytes is_b is_s is_o = of_bad_build (told (word words 1)) (told (word words 2)) reading writing build_bytes script_bytes bytes is_b is_s (plain_refusal refusal) cause
+  order_over BuildTooLong cause ran build_bytes script_bytes bytes is_b is_s is_o = never (IsBadOrderFor build_bytes script_bytes bytes) BadOrder BadBuild (λ e. cc)
+      (λ bad. let within = bad.is_build.within in let long = cause build_bytes is_b in omega arith)
+  order_over (ScriptFault refusal) cause ran build_bytes script_bytes bytes is_b is_s is_o = of_bad_script (told (word words 1)) (told (word words 2)) reading writing build_bytes script_bytes bytes is_b is_s refusal cause
+  order_over ScriptTooLong cause ran build_bytes script_bytes bytes is_b is_s is_o = never (IsBadOrderFor build_bytes script_bytes bytes) BadOrder BadScript (λ e. cc)
+      (λ bad. let within = bad.is_script.within in let long = cause.holds script_bytes is_s in omega arith)
+  order_over _ cause ran build_bytes script_bytes bytes is_b is_s is_o = absurd cause
+
+  pub order_failed : (fault : Fault) (form : Option Form) → Ran form told words reading writing untouched before now (Err fault) → OrderClause form told words (status_of fault)
+  order_failed fault None ran = usage_alone told words reading writing untouched before now fault BadOrder (λ e. cc) ran.caused
+  order_failed fault (Some (Bench units)) ran = unread_alone told words reading writing untouched before now fault BadOrder (λ e. cc) (λ e. cc) ran.caused
+  order_failed fault (Some Check) ran = elim (check_cause (told (word words 1)) (told (word words 2)) reading writing (told (word words 3)) fault ran.caused) [
+    | inl cause ↦ (λ build_bytes is_b script_bytes is_s bytes is_o. order_over fault cause ran build_bytes script_bytes bytes is_b is_s is_o)
+    | inr bad ↦ (λ build_bytes is_b script_bytes is_s bytes is_o. record {
+      only = λ e. record { build = bad.1.0; script = bad.1.1; is_build = bad.1.2.good build_bytes is_b; is_script = bad.1.2.script_is script_bytes is_s; bad = bad.1.3 bytes is_o };
+      must = λ p. inl bad.0;
+    })
+  ]
+  order_failed fault (Some (OnBuild command)) ran = order_alone told words reading writing (told (word words 1)) (told (word words 2)) fault ran.caused

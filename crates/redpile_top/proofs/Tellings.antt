@@ -1,13 +1,21 @@
 -- What a refusal tells of the files that were read.
-use Rattle.std.proofs.Common.{◌≡◌, ◌≤◌, ◌<◌, List, ℕ, Bool, true, length, Option, Some, None, Result, Err, sym, ap, subst, ◌∙◌}
+use Rattle.std.proofs.Common.{◌≡◌, ◌≤◌, ◌<◌, List, ℕ, length, Option, Some, None, Result, Err, refl, sym, ap, subst, ◌∙◌}
+use Rattle.circuit.specs.declared.Pos.{Pos}
 use Rattle.build.specs.Plan.{Plan}
 use Rattle.schematic.specs.File.{Refusal, file, IsFirstRefusal, Refuses as RefusesBuild}
 use Rattle.script.specs.declared.ScriptRefusal.{ScriptRefusal}
 use Rattle.script.specs.declared.ScriptRefusal.TheVariants.{Line, NoMemory as NoMemoryOfScript}
 use Rattle.script.specs.Clickable.{takes_click, is_wire_at}
+use Rattle.script.specs.Acts.{Meaning}
 use Rattle.script.specs.Scripts.{script_of, Refuses}
+use Rattle.report.specs.declared.Fault.{Fault}
+use Rattle.report.specs.declared.OrderKind.{OrderKind}
+use Rattle.world_order.specs.BadLine.{IsBadLine}
+use Rattle.world_order.specs.OrderText.{IsOrder}
+use Rattle.world_order.specs.declared.OrderRefusal.{OrderRefusal}
+use Rattle.world_order.specs.declared.OrderRefusal.TheVariants.{At, NoMemory as NoMemoryOfOrder}
 use Rattle.redpile_top.specs.Files.{IsBuild, OnTold, tests_of}
-use Rattle.redpile_top.specs.Ends.{BuildCause, ScriptCause, IsBuildOf}
+use Rattle.redpile_top.specs.Ends.{Accepted, BuildCause, ScriptCause, CheckFaults, Ends, ButForWrites, OnWriteFault, IsBuildOf, fault_of_order}
 
 pub build_told : (b : Option (List ℕ)) (read : List ℕ) (told : Option Refusal) → ((bytes : List ℕ) → b ≡ Some bytes → read ≡ bytes) → ((bytes : List ℕ) → b ≡ Some bytes → length bytes ≤ 67108864) →
     RefusesBuild read told → BuildCause b told
@@ -43,3 +51,48 @@ good_build b read build same within is = λ bytes told.
       within = subst (λ (bs : List ℕ). length bs ≤ 67108864) (same bytes told) within;
       is = subst (λ (bs : List ℕ). file bs build) (same bytes told) is;
     }
+
+abbrev refused : {T : Type 0} → OrderRefusal → Result T OrderRefusal
+refused refusal = Err refusal
+
+-- a refusal of an order is a fault with its cause
+order_told : {T : Type 0} (b s o : Option (List ℕ)) (reading writing : Type 0) (build : Plan) (script : Meaning) → Accepted (IsBuildOf b) tests_of s build script → (read : List ℕ) →
+    ((bytes : List ℕ) → o ≡ Some bytes → read ≡ bytes) → ((bytes : List ℕ) → o ≡ Some bytes → length bytes ≤ 268435456) → (refusal : OrderRefusal) →
+    ((line tick : ℕ) (kind : OrderKind) → refused {T = T} refusal ≡ Err (At line tick kind) → IsBadLine build script read line tick kind) →
+    ((line tick : ℕ) (kind : OrderKind) → refused {T = T} refusal ≡ Err (At line tick kind) → (order : List (List Pos)) → IsOrder build script read order → ⊥) →
+    CheckFaults b s o reading writing (fault_of_order refusal)
+order_told b s o reading writing build script accepted read same within (At line tick kind) bad none =
+    record {
+      build = build;
+      script = script;
+      accepted = accepted;
+      holds = λ bytes is. record {
+        within = within bytes is;
+        bad = subst (λ (bs : List ℕ). IsBadLine build script bs line tick kind) (same bytes is) (bad line tick kind refl);
+        none = λ order. subst (λ (bs : List ℕ). IsOrder build script bs order → ⊥) (same bytes is) (none line tick kind refl order);
+      };
+    }
+order_told b s o reading writing build script accepted read same within NoMemoryOfOrder bad none = tt
+
+order_nothing : (refusal : OrderRefusal) (P : Type 0) → P → ButForWrites (Err (fault_of_order refusal)) P
+order_nothing (At line tick kind) P p = p
+order_nothing NoMemoryOfOrder P p = p
+
+order_front : (refusal : OrderRefusal) (P : Type 0) → OnWriteFault (Err (fault_of_order refusal)) P
+order_front (At line tick kind) P = tt
+order_front NoMemoryOfOrder P = tt
+
+-- so a refused order ends a call, with its sink untouched
+pub order_ends : {T : Type 0} (b s o : Option (List ℕ)) (reading writing untouched did began : Type 0) (build : Plan) (script : Meaning) → Accepted (IsBuildOf b) tests_of s build script → (read : List ℕ) →
+    ((bytes : List ℕ) → o ≡ Some bytes → read ≡ bytes) → ((bytes : List ℕ) → o ≡ Some bytes → length bytes ≤ 268435456) → (refusal : OrderRefusal) →
+    ((line tick : ℕ) (kind : OrderKind) → refused {T = T} refusal ≡ Err (At line tick kind) → IsBadLine build script read line tick kind) →
+    ((line tick : ℕ) (kind : OrderKind) → refused {T = T} refusal ≡ Err (At line tick kind) → (order : List (List Pos)) → IsOrder build script read order → ⊥) →
+    untouched → (fault : Fault) → fault ≡ fault_of_order refusal → Ends (CheckFaults b s o reading writing) untouched did began (Err fault)
+order_ends b s o reading writing untouched did began build script accepted read same within refusal bad none u fault is =
+    subst (λ (f : Fault). Ends (CheckFaults b s o reading writing) untouched did began (Err f)) (sym is)
+    (record {
+      done = tt;
+      front = order_front refusal began;
+      caused = order_told b s o reading writing build script accepted read same within refusal bad none;
+      nothing = order_nothing refusal untouched u;
+    })

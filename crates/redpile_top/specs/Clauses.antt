@@ -1,6 +1,7 @@
 -- The clauses of the top call: what each answer says of the words, the files and the sinks.
-use Rattle.std.specs.Prelude.{◌≡◌, ◌⊎◌, ℕ, Bool, if◌then◌else◌, List, Option, Some, None, Result, Ok, Err}
+use Rattle.std.specs.Prelude.{◌≡◌, ◌⊎◌, ℕ, if◌then◌else◌, List, Option, Some, None, Ok, Err}
 use Rattle.rp_io.specs.Causes.{Wrote, WrotePrefix}
+use Rattle.circuit.specs.declared.Pos.{Pos}
 use Rattle.build.specs.Plan.{Plan}
 use Rattle.schematic.specs.File.{Refusal, plain_refusal}
 use Rattle.script.specs.declared.ScriptRefusal.{ScriptRefusal}
@@ -12,11 +13,11 @@ use Rattle.report.specs.declared.GraphRefusal.{GraphRefusal}
 use Rattle.report.specs.declared.GraphRefusal.TheVariants.{Json, Whole, Node as NodeRefusal, Link as LinkRefusal, NoMemory as NoMemoryOfGraph}
 use Rattle.report.specs.FaultLine.{fault_line}
 use Rattle.redpile_top.specs.declared.form.Form.{Form}
-use Rattle.redpile_top.specs.declared.form.Form.TheVariants.{OnBuild, Bench}
+use Rattle.redpile_top.specs.declared.form.Form.TheVariants.{OnBuild, Check, Bench}
 use Rattle.redpile_top.specs.declared.status.Status.{Status}
 use Rattle.redpile_top.specs.declared.status.Status.TheVariants.{Done, Usage, ReadFault, WriteFault, BadBuild, BadBlock, BadScript, BadOrder, NoMemory, BadGraph}
-use Rattle.redpile_top.specs.Ends.{Ending, FaultsOf, DidForm, BeganForm}
-use Rattle.redpile_top.specs.Files.{Told, OnTold, IsBuild, is_block, IsBadBuild, IsBadBlock, tests_of, IsScript, IsBadScript}
+use Rattle.redpile_top.specs.Ends.{Ending, DidForm, BeganForm}
+use Rattle.redpile_top.specs.Files.{Told, OnTold, IsBuild, is_block, IsBadBuild, IsBadBlock, tests_of, IsScript, IsBadScript, IsOrderFile, IsBadOrder}
 use Rattle.redpile_top.specs.Forms.{IsFileWord, word}
 
 -- ---- statuses and lines
@@ -70,12 +71,14 @@ pub record Exactly (P : Type 0) (answer status : Status) : Type 0 where
 abbrev pub BuildClause : Option Form → Told → List (List ℕ) → Status → Type 0
 BuildClause None told words status = status ≡ BadBuild → ⊥
 BuildClause (Some (Bench units)) told words status = status ≡ BadBuild → ⊥
+BuildClause (Some Check) told words status = OnTold (told (word words 1)) (λ bytes. Exactly (IsBadBuild bytes) BadBuild status)
 BuildClause (Some (OnBuild command)) told words status = OnTold (told (word words 1)) (λ bytes. Exactly (IsBadBuild bytes) BadBuild status)
 
 -- BadBlock comes exactly where the first cause of the build's file is a block.
 abbrev pub BlockClause : Option Form → Told → List (List ℕ) → Status → Type 0
 BlockClause None told words status = status ≡ BadBlock → ⊥
 BlockClause (Some (Bench units)) told words status = status ≡ BadBlock → ⊥
+BlockClause (Some Check) told words status = OnTold (told (word words 1)) (λ bytes. Exactly (IsBadBlock bytes) BadBlock status)
 BlockClause (Some (OnBuild command)) told words status = OnTold (told (word words 1)) (λ bytes. Exactly (IsBadBlock bytes) BadBlock status)
 
 -- the build is accepted, and the script's file is bad for it
@@ -86,13 +89,28 @@ IsBadScriptFor build_bytes bytes = (build : Plan) × (IsBuild build build_bytes 
 abbrev pub ScriptClause : Option Form → Told → List (List ℕ) → Status → Type 0
 ScriptClause None told words status = status ≡ BadScript → ⊥
 ScriptClause (Some (Bench units)) told words status = status ≡ BadScript → ⊥
+ScriptClause (Some Check) told words status =
+    OnTold (told (word words 1)) (λ build_bytes. OnTold (told (word words 2)) (λ bytes. Exactly (IsBadScriptFor build_bytes bytes) BadScript status))
 ScriptClause (Some (OnBuild command)) told words status =
     OnTold (told (word words 1)) (λ build_bytes. OnTold (told (word words 2)) (λ bytes. Exactly (IsBadScriptFor build_bytes bytes) BadScript status))
 
--- No form of words asks for an order's or a graph's file.
-abbrev pub OrderClause : Status → Type 0
-OrderClause status = status ≡ BadOrder → ⊥
+-- build and script are accepted, and the order's file is bad for them
+pub record IsBadOrderFor (build_bytes script_bytes bytes : List ℕ) : Type 0 where
+  pub build : Plan
+  pub script : Meaning
+  pub is_build : IsBuild build build_bytes
+  pub is_script : IsScript (tests_of build) script script_bytes
+  pub bad : IsBadOrder build script bytes
 
+-- BadOrder comes exactly where the order's file is bad for an accepted build and script.
+abbrev pub OrderClause : Option Form → Told → List (List ℕ) → Status → Type 0
+OrderClause None told words status = status ≡ BadOrder → ⊥
+OrderClause (Some (Bench units)) told words status = status ≡ BadOrder → ⊥
+OrderClause (Some Check) told words status =
+    OnTold (told (word words 1)) (λ build_bytes. OnTold (told (word words 2)) (λ script_bytes. OnTold (told (word words 3)) (λ bytes. Exactly (IsBadOrderFor build_bytes script_bytes bytes) BadOrder status)))
+OrderClause (Some (OnBuild command)) told words status = status ≡ BadOrder → ⊥
+
+-- No form of words asks for a graph's file.
 abbrev pub GraphClause : Status → Type 0
 GraphClause status = status ≡ BadGraph → ⊥
 
@@ -104,10 +122,14 @@ DoneClause form told words before now status = status ≡ Done → DidForm form 
 abbrev pub FrontClause : Option Form → Told → List (List ℕ) → (before now : Option (List ℕ)) → Status → Type 0
 FrontClause form told words before now status = status ≡ WriteFault → BeganForm form told words before now
 
--- An accepted build and script, where they are read, give Done, but for a fault that was counted and for want of memory.
+-- An accepted build and script, and an order of them where the form has one, give Done where they are read, but for a fault that was counted and for want of memory.
 abbrev pub CompleteClause : Option Form → Told → List (List ℕ) → Status → Type 0
 CompleteClause None told words status = Unit {0}
 CompleteClause (Some (Bench units)) told words status = (status ≡ Done) ⊎ ((status ≡ WriteFault) ⊎ (status ≡ NoMemory))
+CompleteClause (Some Check) told words status = (build : Plan) (script : Meaning) (order : List (List Pos)) (build_bytes script_bytes bytes : List ℕ) →
+    told (word words 1) ≡ Some build_bytes → told (word words 2) ≡ Some script_bytes → told (word words 3) ≡ Some bytes →
+    IsBuild build build_bytes → IsScript (tests_of build) script script_bytes → IsOrderFile build script order bytes
+    → (status ≡ Done) ⊎ ((status ≡ ReadFault) ⊎ ((status ≡ WriteFault) ⊎ (status ≡ NoMemory)))
 CompleteClause (Some (OnBuild command)) told words status = (build : Plan) (script : Meaning) (build_bytes bytes : List ℕ) → told (word words 1) ≡ Some build_bytes → told (word words 2) ≡ Some bytes → IsBuild build build_bytes → IsScript (tests_of build) script bytes
     → (status ≡ Done) ⊎ ((status ≡ ReadFault) ⊎ ((status ≡ WriteFault) ⊎ (status ≡ NoMemory)))
 
@@ -129,5 +151,6 @@ AskedClause form words before now = (name : List ℕ) → (IsFileWord form words
 -- Where no file is read, the source is untouched.
 abbrev pub UnreadClause : Option Form → (untouched : Type 0) → Type 0
 UnreadClause None untouched = untouched
+UnreadClause (Some Check) untouched = Unit {0}
 UnreadClause (Some (OnBuild command)) untouched = Unit {0}
 UnreadClause (Some (Bench units)) untouched = untouched

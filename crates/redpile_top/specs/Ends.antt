@@ -8,13 +8,15 @@ use Rattle.script.specs.Acts.{Meaning}
 use Rattle.script.specs.Scripts.{script_of}
 use Rattle.report.specs.declared.Fault.{Fault}
 use Rattle.report.specs.declared.Fault.TheVariants.{Usage, Read, Write, Build, BuildTooLong, Script, ScriptTooLong, Memory, Order, OrderTooLong, Graph, GraphTooLong}
+use Rattle.world_order.specs.declared.OrderRefusal.{OrderRefusal}
+use Rattle.world_order.specs.declared.OrderRefusal.TheVariants.{At, NoMemory as NoMemoryOfOrder}
 use Rattle.redpile_top.specs.declared.form.Command.{Command}
 use Rattle.redpile_top.specs.declared.form.Command.TheVariants.{World, Compile, Run}
 use Rattle.redpile_top.specs.declared.form.Form.{Form}
-use Rattle.redpile_top.specs.declared.form.Form.TheVariants.{OnBuild, Bench}
-use Rattle.redpile_top.specs.Files.{Told, OnTold, IsBuild, Tests, tests_of, IsScript}
+use Rattle.redpile_top.specs.declared.form.Form.TheVariants.{OnBuild, Check, Bench}
+use Rattle.redpile_top.specs.Files.{Told, OnTold, IsBuild, Tests, tests_of, IsScript, HasBadOrderLine}
 use Rattle.redpile_top.specs.Forms.{word}
-use Rattle.redpile_top.specs.Written.{WroteGraph, WroteGraphPrefix, WroteRunOf, WroteRunPrefixOf, WroteSummary, WroteSummaryPrefix}
+use Rattle.redpile_top.specs.Written.{WroteGraph, WroteGraphPrefix, WroteRunOf, WroteRunPrefixOf, WroteChecked, WroteCheckedPrefix, WroteSummary, WroteSummaryPrefix}
 use Rattle.player.specs.Played.{WroteRun, WroteRunPrefix}
 
 abbrev pub Ending : Type 0
@@ -59,6 +61,13 @@ abbrev pub BuildCause : Option (List ℕ) → Option Refusal → Type 0
 BuildCause b None = Unit {0}
 BuildCause b (Some refusal) = OnTold b (λ bytes. (length bytes ≤ 67108864) × IsFirstRefusal bytes refusal)
 
+-- Build and script are accepted, and this holds of the order's file, where it is told.
+pub record OnOrder (b s o : Option (List ℕ)) (P : Plan → Meaning → List ℕ → Type 0) : Type 0 where
+  pub build : Plan
+  pub script : Meaning
+  pub accepted : Accepted (IsBuildOf b) tests_of s build script
+  pub holds : OnTold o (P build script)
+
 -- ---- when a fault may come
 
 -- over a build and a script
@@ -75,6 +84,17 @@ BuildFaults b s reading writing (Order line tick kind) = ⊥
 BuildFaults b s reading writing OrderTooLong = ⊥
 BuildFaults b s reading writing (Graph refusal) = ⊥
 BuildFaults b s reading writing GraphTooLong = ⊥
+
+-- the fault that a refused order is
+abbrev pub fault_of_order : OrderRefusal → Fault
+fault_of_order (At line tick kind) = Order line tick kind
+fault_of_order NoMemoryOfOrder = Memory
+
+-- over a build, a script and an order
+abbrev pub CheckFaults : (b s o : Option (List ℕ)) (reading writing : Type 0) → Fault → Type 0
+CheckFaults b s o reading writing (Order line tick kind) = OnOrder b s o (λ build script bytes. HasBadOrderLine build script bytes line tick kind)
+CheckFaults b s o reading writing OrderTooLong = OnOrder b s o (λ build script bytes. 268435456 < length bytes)
+CheckFaults b s o reading writing fault = BuildFaults b s reading writing fault
 
 -- where no file is read
 abbrev pub UnreadFaults : (writing : Type 0) → Fault → Type 0
@@ -95,6 +115,7 @@ UnreadFaults writing GraphTooLong = ⊥
 abbrev pub FaultsOf : Option Form → Told → List (List ℕ) → (reading writing : Type 0) → Fault → Type 0
 FaultsOf None told words reading writing fault = fault ≡ Usage
 FaultsOf (Some (OnBuild command)) told words reading writing fault = BuildFaults (told (word words 1)) (told (word words 2)) reading writing fault
+FaultsOf (Some Check) told words reading writing fault = CheckFaults (told (word words 1)) (told (word words 2)) (told (word words 3)) reading writing fault
 FaultsOf (Some (Bench units)) told words reading writing fault = UnreadFaults writing fault
 
 -- ---- what was done
@@ -102,25 +123,27 @@ FaultsOf (Some (Bench units)) told words reading writing fault = UnreadFaults wr
 -- what a command wrote: `world` a run of the uncompiled world, `compile` a compiled graph, and `run` a run of one
 abbrev pub DidCommand : Command → (before now : Option (List ℕ)) → Plan → Meaning → Type 0
 DidCommand World before now build script = WroteRun build script before now
-DidCommand Compile before now build script = WroteGraph build script before now
+DidCommand (Compile as_json) before now build script = WroteGraph as_json build script before now
 DidCommand (Run with_graph nodes) before now build script = WroteRunOf nodes with_graph build script before now
 
 -- and what it began to write
 abbrev pub BeganCommand : Command → (before now : Option (List ℕ)) → Plan → Meaning → Type 0
 BeganCommand World before now build script = WroteRunPrefix build script before now
-BeganCommand Compile before now build script = WroteGraphPrefix build script before now
+BeganCommand (Compile as_json) before now build script = WroteGraphPrefix as_json build script before now
 BeganCommand (Run with_graph nodes) before now build script = WroteRunPrefixOf nodes with_graph build script before now
 
 -- by the form of the words: the whole text was written
 abbrev pub DidForm : Option Form → Told → List (List ℕ) → (before now : Option (List ℕ)) → Type 0
 DidForm None told words before now = ⊥
 DidForm (Some (OnBuild command)) told words before now = Did (IsBuildOf (told (word words 1))) tests_of (told (word words 2)) (DidCommand command before now)
+DidForm (Some Check) told words before now = Did (IsBuildOf (told (word words 1))) tests_of (told (word words 2)) (WroteChecked (told (word words 3)) before now)
 DidForm (Some (Bench units)) told words before now = WroteSummary units before now
 
 -- a prefix of such a text was written
 abbrev pub BeganForm : Option Form → Told → List (List ℕ) → (before now : Option (List ℕ)) → Type 0
 BeganForm None told words before now = ⊥
 BeganForm (Some (OnBuild command)) told words before now = Did (IsBuildOf (told (word words 1))) tests_of (told (word words 2)) (BeganCommand command before now)
+BeganForm (Some Check) told words before now = Did (IsBuildOf (told (word words 1))) tests_of (told (word words 2)) (WroteCheckedPrefix (told (word words 3)) before now)
 BeganForm (Some (Bench units)) told words before now = WroteSummaryPrefix units before now
 
 -- ---- how a call ends

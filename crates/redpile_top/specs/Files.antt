@@ -9,6 +9,9 @@ use Rattle.script.specs.declared.ScriptRefusal.TheVariants.{Line}
 use Rattle.script.specs.Acts.{Meaning}
 use Rattle.script.specs.Clickable.{takes_click, is_wire_at}
 use Rattle.script.specs.Scripts.{script_of}
+use Rattle.report.specs.declared.OrderKind.{OrderKind}
+use Rattle.world_order.specs.BadLine.{IsBadLine}
+use Rattle.world_order.specs.OrderText.{IsOrder}
 
 -- the bytes of files by name, where they are told
 abbrev pub Told : Type 0
@@ -70,3 +73,20 @@ pub record HasBadLine (tests : Tests) (bytes : List ℕ) : Type 0 where
 -- They are no script's, or too many.
 abbrev pub IsBadScript : Tests → List ℕ → Type 0
 IsBadScript tests bytes = (1048576 < length bytes) ⊎ HasBadLine tests bytes
+
+-- ---- of an order
+
+-- The bytes are those of this order, which the build's world plays.
+pub record IsOrderFile (build : Plan) (script : Meaning) (order : List (List Pos)) (bytes : List ℕ) : Type 0 where
+  pub within : length bytes ≤ 268435456
+  pub is : IsOrder build script bytes order
+
+-- They are those of no order, and this is the first bad line.
+pub record HasBadOrderLine (build : Plan) (script : Meaning) (bytes : List ℕ) (line tick : ℕ) (kind : OrderKind) : Type 0 where
+  pub within : length bytes ≤ 268435456
+  pub bad : IsBadLine build script bytes line tick kind
+  pub none : (order : List (List Pos)) → IsOrder build script bytes order → ⊥
+
+-- They are those of no order, or too many.
+abbrev pub IsBadOrder : Plan → Meaning → List ℕ → Type 0
+IsBadOrder build script bytes = (268435456 < length bytes) ⊎ ((order : List (List Pos)) → IsOrder build script bytes order → ⊥)

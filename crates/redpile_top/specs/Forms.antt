@@ -5,7 +5,7 @@ use Rattle.rp_text.specs.Numbers.{u32_of}
 use Rattle.redpile_top.specs.declared.form.Command.{Command}
 use Rattle.redpile_top.specs.declared.form.Command.TheVariants.{World, Compile, Run}
 use Rattle.redpile_top.specs.declared.form.Form.{Form}
-use Rattle.redpile_top.specs.declared.form.Form.TheVariants.{OnBuild, Bench}
+use Rattle.redpile_top.specs.declared.form.Form.TheVariants.{OnBuild, Check, Bench}
 use Rattle.redpile_top.specs.declared.form.NodeChoice.{NodeChoice}
 use Rattle.redpile_top.specs.declared.form.NodeChoice.TheVariants.{Pruned, Kept, KeptInOrder}
 
@@ -22,6 +22,12 @@ run_of [] = Some (Run false Pruned)
 run_of (first ∷ flags) =
     if bytes_eq first (codes "--graph") then option_map (Run true) (choice_of flags) else option_map (Run false) (choice_of (first ∷ flags))
 
+-- `compile`, by its flags
+abbrev pub compile_of : List (List ℕ) → Option Command
+compile_of [] = Some (Compile false)
+compile_of (flag ∷ []) = if bytes_eq flag (codes "--json") then Some (Compile true) else None
+compile_of (flag ∷ other ∷ flags) = None
+
 -- a command that has no flags
 abbrev pub unflagged : Command → List (List ℕ) → Option Command
 unflagged command [] = Some command
@@ -31,9 +37,19 @@ unflagged command (flag ∷ flags) = None
 abbrev pub command_of : List ℕ → List (List ℕ) → Option Command
 command_of name flags =
     if bytes_eq name (codes "world") then unflagged World flags
-    else if bytes_eq name (codes "compile") then unflagged Compile flags
+    else if bytes_eq name (codes "compile") then compile_of flags
     else if bytes_eq name (codes "run") then run_of flags
     else None
+
+-- `check`, by the words behind those of the build and the script
+abbrev pub check_of : List (List ℕ) → Option Form
+check_of [] = None
+check_of (order ∷ []) = Some Check
+check_of (order ∷ more ∷ words) = None
+
+-- a form over a build and a script, by its name and by what stands behind their words
+abbrev pub on_files : List ℕ → List (List ℕ) → Option Form
+on_files name rest = if bytes_eq name (codes "check") then check_of rest else option_map OnBuild (command_of name rest)
 
 -- a number of units is from 1 to 4,000
 abbrev pub is_units : ℕ → Bool
@@ -49,7 +65,7 @@ bench_of name number = if bytes_eq name (codes "bench") then option_map Bench (u
 -- The form that the words have, if they have one. The flags stand last.
 abbrev pub form_of : List (List ℕ) → Option Form
 form_of (name ∷ number ∷ []) = bench_of name number
-form_of (name ∷ build ∷ script ∷ flags) = option_map OnBuild (command_of name flags)
+form_of (name ∷ build ∷ script ∷ rest) = on_files name rest
 form_of words = None
 
 -- the word in a place, counted from 0
@@ -60,10 +76,12 @@ word words i = get_or words i []
 pub data FileKind : Type 0 where
   BuildFile : FileKind
   ScriptFile : FileKind
+  OrderFile : FileKind
 
 -- the files that words of this form name, in order, the first of them by the word in place 1
 abbrev pub files_of : Form → List FileKind
 files_of (OnBuild command) = BuildFile ∷ ScriptFile ∷ []
+files_of Check = BuildFile ∷ ScriptFile ∷ OrderFile ∷ []
 files_of (Bench units) = []
 
 -- The word in this place or in a later one names a file, and is this name.

@@ -4,20 +4,22 @@ use Rattle.std.specs.List.{flat_map}
 use Rattle.circuit.specs.declared.Act.{Act}
 use Rattle.circuit.specs.declared.Pos.{Pos}
 use Rattle.circuit.specs.Replay.{Replays, Views}
-use Rattle.circuit.specs.Shows.{steps_of}
+use Rattle.circuit.specs.Shows.{steps_of, fires_in}
 use Rattle.rp_io.specs.Causes.{Wrote, WrotePrefix}
 use Rattle.build.specs.Plan.{Plan}
 use Rattle.build.specs.Outputs.{outputs}
 use Rattle.graph.specs.Graph.{Nodes}
 use Rattle.graph.specs.GraphText.{graph_text}
+use Rattle.graph_file.specs.Json.{json_text}
 use Rattle.power_rules.specs.World.{world_circuit, shows}
 use Rattle.report.specs.declared.Counts.{Counts}
 use Rattle.report.specs.BenchText.{bench_text}
+use Rattle.report.specs.CheckedText.{checked_text}
 use Rattle.report.specs.FireLine.{fire_line}
 use Rattle.report.specs.Header.{header}
 use Rattle.report.specs.RunLines.{run_lines}
 use Rattle.report.specs.Trailers.{world_trailer, run_trailer}
-use Rattle.script.specs.Acts.{Meaning}
+use Rattle.script.specs.Acts.{Meaning, ticks_in}
 use Rattle.compiler.specs.declared.Keep.{Keep}
 use Rattle.compiler.specs.declared.Keep.TheVariants.{Prune, All}
 use Rattle.compiler.specs.Compiled.{Compiled}
@@ -25,23 +27,25 @@ use Rattle.compiler.specs.PlaceOrder.{expand}
 use Rattle.generator.specs.Made.{made_build, made_script}
 use Rattle.player.specs.Moments.{run_text}
 use Rattle.player.specs.Played.{ShowsCounted, graph_run_text, last_view}
+use Rattle.redpile_top.specs.Files.{OnTold, IsOrderFile}
 use Rattle.redpile_top.specs.declared.form.NodeChoice.{NodeChoice}
 use Rattle.redpile_top.specs.declared.form.NodeChoice.TheVariants.{Pruned, Kept, KeptInOrder}
 
--- ---- `compile`: the text of a compiled graph, and the last line
+-- ---- `compile`: a compiled graph, as a text with a last line or as a file
 
-abbrev pub compile_text : Nodes → List ℕ
-compile_text g = graph_text g ++ world_trailer
+abbrev pub compile_text : Bool → Nodes → List ℕ
+compile_text false g = graph_text g ++ world_trailer
+compile_text true g = json_text g
 
-pub record WroteGraph (build : Plan) (script : Meaning) (before now : Option (List ℕ)) : Type 0 where
+pub record WroteGraph (as_json : Bool) (build : Plan) (script : Meaning) (before now : Option (List ℕ)) : Type 0 where
   pub graph : Nodes
   pub compiled : Compiled build script.marks Prune graph
-  pub wrote : Wrote before now (compile_text graph)
+  pub wrote : Wrote before now (compile_text as_json graph)
 
-pub record WroteGraphPrefix (build : Plan) (script : Meaning) (before now : Option (List ℕ)) : Type 0 where
+pub record WroteGraphPrefix (as_json : Bool) (build : Plan) (script : Meaning) (before now : Option (List ℕ)) : Type 0 where
   pub graph : Nodes
   pub compiled : Compiled build script.marks Prune graph
-  pub wrote : WrotePrefix before now (compile_text graph)
+  pub wrote : WrotePrefix before now (compile_text as_json graph)
 
 -- ---- `run`: the run of a compiled graph, behind its text where that is asked for
 
@@ -135,6 +139,18 @@ abbrev pub WroteRunPrefixOf : NodeChoice → Bool → Plan → Meaning → (befo
 WroteRunPrefixOf Pruned with_graph build script before now = WroteCompiledRunPrefix with_graph Prune build script before now
 WroteRunPrefixOf Kept with_graph build script before now = WroteCompiledRunPrefix with_graph All build script before now
 WroteRunPrefixOf KeptInOrder with_graph build script before now = WroteOrderedRunPrefix with_graph build script before now
+
+-- ---- `check`: how many ticks and firings the order of a file has, which the build's world plays
+
+pub record WroteChecked (o : Option (List ℕ)) (before now : Option (List ℕ)) (build : Plan) (script : Meaning) : Type 0 where
+  pub order : List (List Pos)
+  pub is_order : OnTold o (IsOrderFile build script order)
+  pub wrote : Wrote before now (checked_text (ticks_in script.acts) (fires_in order))
+
+pub record WroteCheckedPrefix (o : Option (List ℕ)) (before now : Option (List ℕ)) (build : Plan) (script : Meaning) : Type 0 where
+  pub order : List (List Pos)
+  pub is_order : OnTold o (IsOrderFile build script order)
+  pub wrote : WrotePrefix before now (checked_text (ticks_in script.acts) (fires_in order))
 
 -- ---- `bench`: the summary of a run of the compiled graph of the build and script that are made of so many units
 

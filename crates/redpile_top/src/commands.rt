@@ -5,6 +5,7 @@ ghost use Rattle.rp_io.specs.Causes.{HasCause, Wrote, WrotePrefix};
 ghost use Rattle.circuit.specs.Taken.{EachActTaken};
 ghost use Rattle.graph.specs.GraphCircuit.{graph_circuit};
 ghost use Rattle.player.specs.Ending.{EndsWriting};
+ghost use Rattle.report.specs.CheckedText.{checked_text};
 ghost use Rattle.script.specs.Clickable.{takes_click, is_wire_at};
 ghost use Rattle.script.specs.Fit.{IsFit};
 ghost use Rattle.redpile_top.specs.Ends.{DidCommand, BeganCommand};
@@ -15,17 +16,22 @@ use build::{Build, outputs};
 use compiler::{Keep, compile_build};
 use generator::make;
 use graph::Graph;
+use graph_file::to_text;
 use player::{PlayRefusal, ReadyGraph, Steps, play_silently, play_world};
-use report::{LineBuf, push_summary};
-use rp_io::{CountSink, Sink, WriteFault, put_all};
+use report::{LineBuf, push_checked, push_summary};
+use rp_io::{Sink, WriteFault, put_all};
 use rp_text::{NoMemory, push_bytes};
 use script::Script;
 use std::alloc::Global;
 use std::marker::Brand;
 use std::sync::ledger::{Blank, Ledger};
+use world_order::Checked;
 
 /// Room for the summary of a bench.
 const SUMMARY_ROOM: usize = 192;
+
+/// Room for what is said of an order that was checked.
+const CHECKED_ROOM: usize = 160;
 
 /// Writes what a command writes for a build and a script.
 pub fn perform<O: Sink>(
@@ -41,7 +47,7 @@ pub fn perform<O: Sink>(
 {
     match command {
         Command::World => play_world(alloc, build, script, out),
-        Command::Compile => compile(alloc, build, script, out),
+        Command::Compile { as_json } => compile(alloc, as_json, build, script, out),
         Command::Run { graph, nodes } => {
             run_compiled::<O, Brand>(alloc, graph, nodes, build, script, out, Blank::new(1))
         }
@@ -58,27 +64,31 @@ fn put<O: Sink>(out: &mut O, bytes: &[u8]) -> Result<(), PlayRefusal>
     }
 }
 
-fn compile_text(alloc: Global, graph: &Graph) -> Result<Vec<u8>, NoMemory>
-    ensures { IfOk result (λ text. text.items ≡ compile_text graph.now.nodes) }
+fn compile_text(alloc: Global, as_json: bool, graph: &Graph) -> Result<Vec<u8>, NoMemory>
+    ensures { IfOk result (λ text. text.items ≡ compile_text as_json graph.now.nodes) }
 {
+    if as_json {
+        return to_text(alloc, graph);
+    }
     let mut text = Vec::new(alloc);
     graph.push_text(&mut text)?;
     push_bytes(&mut text, b"end\n")?;
     Ok(text)
 }
 
-/// The command `compile`: the text of the compiled graph.
+/// The command `compile`: the text or the file of the compiled graph.
 fn compile<O: Sink>(
     alloc: Global,
+    as_json: bool,
     build: &Build,
     script: &Script,
     out: &mut O,
 ) -> Result<(), PlayRefusal>
-    ensures { EndsWriting (λ done. WroteGraph build.now script.now (O.written out.old) (O.written out.new))
-        (WroteGraphPrefix build.now script.now (O.written out.old) (O.written out.new)) (out.new ≡ out.old) (O.faults out.old) (O.faults out.new) result }
+    ensures { EndsWriting (λ done. WroteGraph as_json build.now script.now (O.written out.old) (O.written out.new))
+        (WroteGraphPrefix as_json build.now script.now (O.written out.old) (O.written out.new)) (out.new ≡ out.old) (O.faults out.old) (O.faults out.new) result }
 {
     let graph = compile_build(alloc, build, script.marks(), Keep::Prune)?;
-    let text = compile_text(alloc, &graph)?;
+    let text = compile_text(alloc, as_json, &graph)?;
     put(out, &text)
 }
 
@@ -156,6 +166,16 @@ fn put_ready<O: Sink, L: Ledger>(
     put_all(out, front)?;
     ready.put(script, out, steps)?;
     Ok(())
+}
+
+/// Writes what is said of an order that was checked.
+pub fn put_checked<O: Sink>(alloc: Global, checked: Checked, out: &mut O) -> Result<(), PlayRefusal>
+    ensures { EndsWriting (λ done. Wrote (O.written out.old) (O.written out.new) (checked_text checked.ticks checked.fires))
+        (WrotePrefix (O.written out.old) (O.written out.new) (checked_text checked.ticks checked.fires)) (out.new ≡ out.old) (O.faults out.old) (O.faults out.new) result }
+{
+    let mut line = LineBuf::new(alloc, CHECKED_ROOM)?;
+    push_checked(&mut line, checked.ticks, checked.fires);
+    put(out, line.bytes())
 }
 
 /// The command `bench`: the summary of a run of the compiled graph of so many units.

@@ -1,7 +1,7 @@
 //! The forms of the words.
 
-ghost use Rattle.std.specs.Prelude.{◌≡◌, ℕ, List, map, string_bytes};
-ghost use Rattle.redpile_top.specs.Forms.{choice_of, run_of, unflagged, command_of, units_within, bench_of, form_of, word};
+ghost use Rattle.std.specs.Prelude.{◌≡◌, map, string_bytes};
+ghost use Rattle.redpile_top.specs.Forms.{choice_of, run_of, compile_of, unflagged, command_of, check_of, on_files, units_within, bench_of, form_of, word};
 
 use rp_text::read_u32;
 
@@ -21,8 +21,8 @@ pub enum NodeChoice {
 pub enum Command {
     /// `world BUILD SCRIPT`
     World,
-    /// `compile BUILD SCRIPT`
-    Compile,
+    /// `compile BUILD SCRIPT [--json]`
+    Compile { as_json: bool },
     /// `run BUILD SCRIPT [--graph] [--keep [--order]]`
     Run { graph: bool, nodes: NodeChoice },
 }
@@ -33,6 +33,8 @@ pub enum Form {
     /// A command over a build and a script, whose files are named by the words in the places 1
     /// and 2.
     OnBuild { command: Command },
+    /// `check BUILD SCRIPT ORDER`, whose files are named by the words in the places 1 to 3.
+    Check,
     /// `bench N`, with a number from 1 to 4,000.
     Bench { units: u32 },
 }
@@ -43,10 +45,29 @@ pub fn form_of(words: &[String]) -> Option<Form>
 {
     match words {
         [name, number] => bench_of(name.as_str(), number.as_str()),
-        [name, _, _, flags @ ..] => {
-            let command = command_of(name.as_str(), flags)?;
-            Some(Form::OnBuild { command })
-        }
+        [name, _, _, rest @ ..] => on_files(name.as_str(), rest),
+        _ => None,
+    }
+}
+
+// A form over a build and a script, by its name and by what stands behind their words.
+fn on_files(name: &str, rest: &[String]) -> Option<Form>
+    ensures { result ≡ on_files name.now (map string_bytes rest.now) }
+{
+    if name == "check" {
+        check_of(rest)
+    } else {
+        let command = command_of(name, rest)?;
+        Some(Form::OnBuild { command })
+    }
+}
+
+// `check`, by the words behind those of the build and the script.
+fn check_of(rest: &[String]) -> Option<Form>
+    ensures { result ≡ check_of (map string_bytes rest.now) }
+{
+    match rest {
+        [_] => Some(Form::Check),
         _ => None,
     }
 }
@@ -57,7 +78,7 @@ fn command_of(name: &str, flags: &[String]) -> Option<Command>
 {
     match name {
         "world" => unflagged(Command::World, flags),
-        "compile" => unflagged(Command::Compile, flags),
+        "compile" => compile_of(flags),
         "run" => run_of(flags),
         _ => None,
     }
@@ -69,6 +90,17 @@ fn unflagged(command: Command, flags: &[String]) -> Option<Command>
 {
     match flags {
         [] => Some(command),
+        _ => None,
+    }
+}
+
+// `compile`, by its flags.
+fn compile_of(flags: &[String]) -> Option<Command>
+    ensures { result ≡ compile_of (map string_bytes flags.now) }
+{
+    match flags {
+        [] => Some(Command::Compile { as_json: false }),
+        [flag] if flag.as_str() == "--json" => Some(Command::Compile { as_json: true }),
         _ => None,
     }
 }

@@ -1,6 +1,8 @@
 //! The whole program over its words, its files and its two sinks.
 #![tactic(auto)]
 
+#[cfg(test)]
+mod check_tests;
 mod commands;
 mod form;
 #[cfg(test)]

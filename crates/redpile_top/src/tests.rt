@@ -181,7 +181,7 @@ fn calls(alloc: Global, numbers: &[u64]) -> Result<Calls, AllocError> {
     })
 }
 
-fn call(
+pub(crate) fn call(
     alloc: Global,
     words: &[&str],
     files: &[(&str, &[u8])],
@@ -877,7 +877,7 @@ fn all_are_usage(rt: &impl Abort, alloc: Global, rows: &[&[&str]]) -> Result<(),
 
 #[test]
 fn usage(rt: HostRuntime) -> Result<(), Fail> {
-    let words: [&[&str]; 11] = [
+    let words: [&[&str]; 15] = [
         &[],
         &["world"],
         &["world", "a"],
@@ -889,13 +889,17 @@ fn usage(rt: HostRuntime) -> Result<(), Fail> {
         &["bench", "0"],
         &["bench", "4001"],
         &["bench", "1", "1"],
+        &["check"],
+        &["check", "a"],
+        &["check", "a", "b"],
+        &["check", "a", "b", "c", "d"],
     ];
     all_are_usage(&rt, rt.alloc(), &words)
 }
 
 #[test]
 fn usage_of_flags(rt: HostRuntime) -> Result<(), Fail> {
-    let words: [&[&str]; 15] = [
+    let words: [&[&str]; 19] = [
         &["run", "a", "b", "--order"],
         &["run", "a", "b", "--graph", "--order"],
         &["run", "a", "b", "--order", "--keep"],
@@ -904,6 +908,10 @@ fn usage_of_flags(rt: HostRuntime) -> Result<(), Fail> {
         &["world", "a", "b", "c"],
         &["world", "a", "b", "--keep"],
         &["compile", "a", "b", "--graph"],
+        &["compile", "a", "b", "--json", "--json"],
+        &["compile", "--json", "a", "b"],
+        &["world", "a", "b", "--json"],
+        &["run", "a", "b", "--json"],
         &["run", "a", "b", "--Keep"],
         &["run", "--keep", "a", "b"],
         &["run", "a", "b", "--keep", "--graph"],
@@ -913,6 +921,29 @@ fn usage_of_flags(rt: HostRuntime) -> Result<(), Fail> {
         &["run", "a", "b", "--graph", "--keep", "--keep"],
     ];
     all_are_usage(&rt, rt.alloc(), &words)
+}
+
+/// The graph as one line of JSON, in one piece.
+#[test]
+fn graph_file_of_lever_and_lamp(rt: HostRuntime) -> Result<(), Fail> {
+    let alloc = rt.alloc();
+    let build = lever_and_lamp_file(alloc)?;
+    let script = b"use 0 0 0\ntick 1\nuse 0 0 0\ntick 2";
+    let line =
+        b"{\"links\":[[0,1,0,0]],\"nodes\":[{\"also\":[],\"at\":[0,0,0],\"due\":0,\"first\":false,\"kind\":\"lever\",\"priority\":0,\"state\":0},{\"also\":[],\"at\":[2,0,0],\"due\":0,\"first\":false,\"kind\":\"lamp\",\"priority\":0,\"state\":0}],\"redpile\":1}\n";
+    let second = Faults { out: &[1], ..NONE };
+    writes(
+        &rt,
+        &by(
+            alloc,
+            &["compile", "a", "b", "--json"],
+            &build,
+            script,
+            second,
+        )?,
+        line,
+    );
+    Ok(())
 }
 
 /// A script of 1,048,576 bytes is read, and one byte more is refused.

@@ -8,11 +8,11 @@ ghost use Rattle.script.specs.Clickable.{takes_click, is_wire_at};
 ghost use Rattle.script.specs.Fit.{IsFit};
 ghost use Rattle.redpile_top.specs.Forms.{form_of, word};
 ghost use Rattle.redpile_top.specs.Files.{tests_of};
-ghost use Rattle.redpile_top.specs.Written.{WroteSummary, WroteSummaryPrefix};
-ghost use Rattle.redpile_top.specs.Ends.{Accepted, Did, BuildFaults, UnreadFaults, FaultsOf, IsBuildOf, DidCommand, BeganCommand, Ends, Ran};
+ghost use Rattle.redpile_top.specs.Written.{WroteChecked, WroteCheckedPrefix, WroteSummary, WroteSummaryPrefix};
+ghost use Rattle.redpile_top.specs.Ends.{fault_of_order, Accepted, Did, BuildFaults, CheckFaults, UnreadFaults, FaultsOf, IsBuildOf, DidCommand, BeganCommand, Ends, Ran};
 ghost use Rattle.redpile_top.specs.Clauses.{IsConstant, IsConstantFault, AskedClause, UnreadClause, BuildClause, BlockClause, ScriptClause, OrderClause, GraphClause, DoneClause, FrontClause, CompleteClause, LineClause};
 
-use crate::commands::{bench, perform};
+use crate::commands::{bench, perform, put_checked};
 use crate::form::{Command, Form, form_of, word};
 use crate::status::{Status, status_of};
 use build::Build;
@@ -22,12 +22,16 @@ use rp_io::{Inputs, ReadRefusal, Sink, WriteFault, put_all, read_whole};
 use schematic::{BuildRefusal, read_build};
 use script::{Script, read_script};
 use std::alloc::Global;
+use world_order::{OrderRefusal, check};
 
 /// The most bytes that a build's file may have.
 const BUILD_LIMIT: u64 = 67_108_864;
 
 /// The most bytes that a script's file may have.
 const SCRIPT_LIMIT: u64 = 1_048_576;
+
+/// The most bytes that an order's file may have.
+const ORDER_LIMIT: u64 = 268_435_456;
 
 /// Room for the line of every fault but for the name of a block.
 const FAULT_ROOM: usize = 128;
@@ -97,6 +101,55 @@ fn on_build<I: Inputs, O: Sink>(
     }
 }
 
+/// The fault that a refused order is.
+fn fault_of_order(refusal: OrderRefusal) -> Fault
+    ensures { result ≡ fault_of_order refusal }
+{
+    match refusal {
+        OrderRefusal::At { line, tick, kind } => Fault::Order { line, tick, kind },
+        OrderRefusal::NoMemory => Fault::Memory,
+    }
+}
+
+/// The command `check`.
+fn on_order<I: Inputs, O: Sink>(
+    alloc: Global,
+    inputs: &mut I,
+    build: &str,
+    script: &str,
+    order: &str,
+    out: &mut O,
+) -> Result<(), Fault>
+    ensures files { I.file inputs.new ≡ I.file inputs.old }
+    ensures asked { (name : List ℕ) → name ≢ build.now → name ≢ script.now → name ≢ order.now → I.asked inputs.new name ≡ I.asked inputs.old name }
+    ensures read_later { I.faults inputs.old ≤ I.faults inputs.new }
+    ensures wrote_later { O.faults out.old ≤ O.faults out.new }
+    ensures ends { Ends (CheckFaults (I.file inputs.old build.now) (I.file inputs.old script.now) (I.file inputs.old order.now) (Rose (I.faults inputs.old) (I.faults inputs.new)) (Rose (O.faults out.old) (O.faults out.new)))
+        (out.new ≡ out.old)
+        (Did (IsBuildOf (I.file inputs.old build.now)) tests_of (I.file inputs.old script.now) (WroteChecked (I.file inputs.old order.now) (O.written out.old) (O.written out.new)))
+        (Did (IsBuildOf (I.file inputs.old build.now)) tests_of (I.file inputs.old script.now) (WroteCheckedPrefix (I.file inputs.old order.now) (O.written out.old) (O.written out.new))) result }
+{
+    let (build, script) = match accepted(alloc, inputs, build, script) {
+        Ok(found) => found,
+        Err(fault) => return Err(fault),
+    };
+    let text = match read_whole(alloc, inputs, order, ORDER_LIMIT) {
+        Ok(text) => text,
+        Err(ReadRefusal::ReadFault) => return Err(Fault::Read),
+        Err(ReadRefusal::TooLong) => return Err(Fault::OrderTooLong),
+        Err(ReadRefusal::NoMemory) => return Err(Fault::Memory),
+    };
+    let checked = match check(alloc, &build, &script, &text) {
+        Ok(checked) => checked,
+        Err(refusal) => return Err(fault_of_order(refusal)),
+    };
+    match put_checked(alloc, checked, out) {
+        Ok(()) => Ok(()),
+        Err(PlayRefusal::WriteFault) => Err(Fault::Write),
+        Err(PlayRefusal::NoMemory) => Err(Fault::Memory),
+    }
+}
+
 /// The command `bench`.
 fn on_units<O: Sink>(alloc: Global, units: u32, out: &mut O) -> Result<(), Fault>
     requires some { 1 ≤ units }
@@ -133,6 +186,14 @@ fn run_form<I: Inputs, O: Sink>(
         Form::OnBuild { command } => {
             on_build(alloc, command, inputs, word(words, 1), word(words, 2), out)
         }
+        Form::Check => on_order(
+            alloc,
+            inputs,
+            word(words, 1),
+            word(words, 2),
+            word(words, 3),
+            out,
+        ),
         Form::Bench { units } => on_units(alloc, units, out),
     }
 }
@@ -237,12 +298,14 @@ fn put_line<E: Sink>(err: &mut E, room: Option<LineBuf>, fault: &Fault) -> Resul
 /// sinks: standard output and standard error.
 ///
 /// `world BUILD SCRIPT` reads a build and a script and writes what the build shows: the header, a
-/// line for each view, and the trailer. `compile BUILD SCRIPT` writes the text of the compiled
-/// graph. `run BUILD SCRIPT [--graph] [--keep [--order]]` plays that graph and writes what it
+/// line for each view, and the trailer. `compile BUILD SCRIPT [--json]` writes the text of the
+/// compiled graph, or its file. `run BUILD SCRIPT [--graph] [--keep [--order]]` plays that graph and writes what it
 /// shows, with its counts, behind its text with `--graph`; with `--keep` nothing is pruned, and
 /// with `--order` a line for each place that fires stands before the line of its tick. `bench N`
-/// plays a build of N units that it makes, 1 to 4,000, and writes a summary. Any other words are
-/// Usage. A fault of `err` changes no status.
+/// plays a build of N units that it makes, 1 to 4,000, and writes a summary. `check BUILD SCRIPT
+/// ORDER` reads a text such as `run --keep --order` writes and plays the blocks as it says; it
+/// writes how many ticks and firings there are where all its lines are right, and names the first
+/// that isn't else. Any other words are Usage. A fault of `err` changes no status.
 pub fn redpile<I: Inputs, O: Sink, E: Sink>(
     alloc: Global,
     words: &[String],
@@ -256,7 +319,7 @@ pub fn redpile<I: Inputs, O: Sink, E: Sink>(
     ensures build { let names = map string_bytes words.now in BuildClause (form_of names) (I.file inputs.old) names result }
     ensures block { let names = map string_bytes words.now in BlockClause (form_of names) (I.file inputs.old) names result }
     ensures script { let names = map string_bytes words.now in ScriptClause (form_of names) (I.file inputs.old) names result }
-    ensures order { OrderClause result }
+    ensures order { let names = map string_bytes words.now in OrderClause (form_of names) (I.file inputs.old) names result }
     ensures graph { GraphClause result }
     ensures done { let names = map string_bytes words.now in DoneClause (form_of names) (I.file inputs.old) names (O.written out.old) (O.written out.new) result }
     ensures front { let names = map string_bytes words.now in FrontClause (form_of names) (I.file inputs.old) names (O.written out.old) (O.written out.new) result }
