@@ -11,7 +11,7 @@ ghost use Rattle.graph_file.specs.Sending.{entry_data, sent_link, sent_at, sent_
 
 use graph::{Graph, Group, Kind, Link, Node, NodeKey, Pos};
 use node_arena::Key;
-use rp_text::{NoMemory};
+use rp_text::NoMemory;
 use serde_json::{Map, Value, put};
 use std::alloc::Global;
 
