@@ -1,7 +1,7 @@
 //! Lists of numbers that grow, and rows of them.
 
 ghost use Rattle.std.specs.Prelude.{◌≡◌, ◌<◌, [], ◌∷◌, ◌++◌, length, replicate, set, IfOk, OnOk};
-ghost use Rattle.wire_net.specs.Listed.{list_at};
+ghost use Rattle.number_rows.specs.Listed.{list_at};
 
 use crate::rows::Rows;
 use rp_text::NoMemory;
@@ -16,7 +16,7 @@ pub struct Lists {
 
 impl Model for Lists {
     ghost use Rattle.std.specs.Prelude.{List, ℕ};
-    ghost use Rattle.wire_net.specs.Listed.{items_of};
+    ghost use Rattle.number_rows.specs.Listed.{items_of};
 
     ghost Value = { List (List ℕ) };
 

@@ -1,7 +1,7 @@
 //! Rows of numbers, one behind another.
 
 ghost use Rattle.std.specs.Prelude.{◌≡◌, ◌≤◌, ◌^◌, [], ◌∷◌, ◌++◌, OnOk, IfOk, OnErr};
-ghost use Rattle.wire_net.specs.Listed.{list_at};
+ghost use Rattle.number_rows.specs.Listed.{list_at};
 
 use rp_text::NoMemory;
 use std::alloc::Global;

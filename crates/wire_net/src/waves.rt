@@ -7,7 +7,8 @@ ghost use Rattle.wire_net.specs.Noted.{AreCells, InSome, IsNoted, Notes};
 ghost use Rattle.wire_net.specs.WaveSteps.{AreBelow, count_from, Falling, Fell, Has, IsTurned, Nothing, Rising, Rose};
 
 use crate::cell_lists::CellLists;
-use crate::{Net, Waves, Work};
+use crate::{Net, Waves, Work, power_of};
+use number_rows::Rows;
 
 // What it costs. A cell is looked at if it is a changed or a fallen one, or if a cell feeds it that
 // fell or rose; a look reads the powers of its feeders. No cell falls twice, since a power of 0 has
@@ -72,14 +73,14 @@ pub fn resolve_noted<N: Net>(net: &N, powers: &mut [u8], changed: &[u32], waves:
 // hung on it. It lists them in `fallen`.
 fn fall<N: Net>(
     net: &N,
-    feeders: &CellLists,
-    fed: &CellLists,
+    feeders: &Rows,
+    fed: &Rows,
     powers: &mut [u8],
     changed: &[u32],
     fallen: &mut Vec<u32>,
 )
-    requires lists { feeders.now.lists ≡ feeders_of (N.net net.now) }
-    requires turned { IsTurned feeders.now.lists fed.now.lists }
+    requires lists { feeders.now ≡ feeders_of (N.net net.now) }
+    requires turned { IsTurned feeders.now fed.now }
     requires right { WasRight (N.net net.now) powers.old changed.now }
     requires cells { AreBelow (length (N.net net.now)) changed.now }
     requires empty { fallen.old.items ≡ [] }
@@ -95,27 +96,24 @@ fn fall<N: Net>(
     while next < fallen.len() {
         let from = fallen[next];
         next += 1;
-        for cell in fed.list(from as usize) {
+        for cell in fed.row(from as usize) {
             let_fall(net, feeders, powers, *cell, fallen);
         }
     }
 }
 
 // Lets the cell fall to 0 if its power has no support, and lists it.
-fn let_fall<N: Net>(
-    net: &N,
-    feeders: &CellLists,
-    powers: &mut [u8],
-    cell: u32,
-    fallen: &mut Vec<u32>,
-)
-    requires lists { feeders.now.lists ≡ feeders_of (N.net net.now) }
+fn let_fall<N: Net>(net: &N, feeders: &Rows, powers: &mut [u8], cell: u32, fallen: &mut Vec<u32>)
+    requires lists { feeders.now ≡ feeders_of (N.net net.now) }
     requires long { length powers.old ≡ length (N.net net.now) }
     requires in_net { cell < length (N.net net.now) }
     requires room { length fallen.old.items + count_from 1 powers.old ≤ vec_capacity fallen.old }
     ensures step { Fell (N.net net.now) powers.old fallen.old.items cell powers.new fallen.new.items }
     ensures room { vec_capacity fallen.old ≤ vec_capacity fallen.new }
 {
+    if powers[cell as usize] == 0 {
+        return;
+    }
     if needed(net, feeders, powers, cell) < powers[cell as usize] {
         powers[cell as usize] = 0;
         append(fallen, cell);
@@ -125,13 +123,13 @@ fn let_fall<N: Net>(
 // Starts the rising wave: the changed and the fallen cells take the power that they must have.
 fn start_rise<N: Net>(
     net: &N,
-    feeders: &CellLists,
+    feeders: &Rows,
     powers: &mut [u8],
     changed: &[u32],
     fallen: &[u32],
     levels: &mut CellLists,
 )
-    requires lists { feeders.now.lists ≡ feeders_of (N.net net.now) }
+    requires lists { feeders.now ≡ feeders_of (N.net net.now) }
     requires falling { Falling (N.net net.now) changed.now powers.old fallen.now (length fallen.now) [] 0 }
     requires cells { AreBelow (length (N.net net.now)) changed.now }
     requires count { length levels.old.lists ≡ 16 }
@@ -150,15 +148,9 @@ fn start_rise<N: Net>(
 }
 
 // The rising wave, from the highest level down: a cell that has risen lifts those that it feeds.
-fn rise<N: Net>(
-    net: &N,
-    feeders: &CellLists,
-    fed: &CellLists,
-    powers: &mut [u8],
-    levels: &mut CellLists,
-)
-    requires lists { feeders.now.lists ≡ feeders_of (N.net net.now) }
-    requires turned { IsTurned feeders.now.lists fed.now.lists }
+fn rise<N: Net>(net: &N, feeders: &Rows, fed: &Rows, powers: &mut [u8], levels: &mut CellLists)
+    requires lists { feeders.now ≡ feeders_of (N.net net.now) }
+    requires turned { IsTurned feeders.now fed.now }
     requires rising { Rising (N.net net.now) powers.old levels.old.lists 15 0 Nothing }
     requires room { length (N.net net.now) ≤ levels.old.room }
     ensures rising { Rising (N.net net.now) powers.new levels.new.lists 0 0 Nothing }
@@ -175,14 +167,14 @@ fn rise<N: Net>(
 // One level of the rising wave.
 fn rise_from<N: Net>(
     net: &N,
-    feeders: &CellLists,
-    fed: &CellLists,
+    feeders: &Rows,
+    fed: &Rows,
     powers: &mut [u8],
     levels: &mut CellLists,
     level: u8,
 )
-    requires lists { feeders.now.lists ≡ feeders_of (N.net net.now) }
-    requires turned { IsTurned feeders.now.lists fed.now.lists }
+    requires lists { feeders.now ≡ feeders_of (N.net net.now) }
+    requires turned { IsTurned feeders.now fed.now }
     requires level { level < 16 }
     requires rising { Rising (N.net net.now) powers.old levels.old.lists level 0 Nothing }
     requires room { length (N.net net.now) ≤ levels.old.room }
@@ -195,7 +187,7 @@ fn rise_from<N: Net>(
         let from = levels.list(level as usize)[next];
         next += 1;
         if powers[from as usize] == level {
-            for cell in fed.list(from as usize) {
+            for cell in fed.row(from as usize) {
                 lift(net, feeders, powers, *cell, levels);
             }
         }
@@ -203,8 +195,8 @@ fn rise_from<N: Net>(
 }
 
 // Lifts the cell to the power that it must have if it has less, and lists it at that level.
-fn lift<N: Net>(net: &N, feeders: &CellLists, powers: &mut [u8], cell: u32, levels: &mut CellLists)
-    requires lists { feeders.now.lists ≡ feeders_of (N.net net.now) }
+fn lift<N: Net>(net: &N, feeders: &Rows, powers: &mut [u8], cell: u32, levels: &mut CellLists)
+    requires lists { feeders.now ≡ feeders_of (N.net net.now) }
     requires long { length powers.old ≡ length (N.net net.now) }
     requires in_net { cell < length (N.net net.now) }
     requires count { length levels.old.lists ≡ 16 }
@@ -222,25 +214,13 @@ fn lift<N: Net>(net: &N, feeders: &CellLists, powers: &mut [u8], cell: u32, leve
 }
 
 // The power that the cell must have under these powers.
-fn needed<N: Net>(net: &N, feeders: &CellLists, powers: &[u8], cell: u32) -> u8
-    requires lists { feeders.now.lists ≡ feeders_of (N.net net.now) }
+fn needed<N: Net>(net: &N, feeders: &Rows, powers: &[u8], cell: u32) -> u8
+    requires lists { feeders.now ≡ feeders_of (N.net net.now) }
     requires long { length powers.now ≡ length (N.net net.now) }
     requires in_net { cell < length (N.net net.now) }
     ensures { result ≡ power_under powers.now (cell_at (N.net net.now) cell) }
 {
-    power_with(net.base(cell), feeders.list(cell as usize), powers)
-}
-
-// The power of a cell with this base power and these feeders.
-fn power_with(base: u8, feeders: &[u32], powers: &[u8]) -> u8
-    requires { AreBelow (length powers.now) feeders.now }
-    ensures { result ≡ max base (greatest (map (λ f. slice_index powers.now f - 1) feeders.now)) }
-{
-    let mut power = base;
-    for feeder in feeders {
-        power = power.max(powers[*feeder as usize].saturating_sub(1));
-    }
-    power
+    power_of(net, powers, cell)
 }
 
 // Puts a cell at the end of a list that has room for it.

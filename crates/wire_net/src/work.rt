@@ -6,6 +6,7 @@ ghost use Rattle.wire_net.specs.Net.{feeders_of};
 
 use crate::Net;
 use crate::cell_lists::CellLists;
+use number_rows::{Lists, Rows, rows_from};
 use rp_text::NoMemory;
 use std::alloc::Global;
 use std::marker::Model;
@@ -39,8 +40,8 @@ impl Work {
 /// feeders of each cell and those lists.
 #[derive(Drop)]
 pub struct Waves {
-    pub(crate) feeders: CellLists,
-    pub(crate) fed: CellLists,
+    pub(crate) feeders: Rows,
+    pub(crate) fed: Rows,
     // The cells that fell to 0 in the call.
     pub(crate) fallen: Vec<u32>,
     // The cells that rose in the call, by the power that they rose to.
@@ -54,7 +55,7 @@ impl Model for Waves {
 
     ghost Value = { Waved };
 
-    ghost view = { λ w. record { feeders = w.feeders.lists; fallen = w.fallen.items; levels = w.levels.lists } };
+    ghost view = { λ w. record { feeders = w.feeders; fallen = w.fallen.items; levels = w.levels.lists } };
 
     ghost invariant = { λ w. IsReady w.feeders w.fed w.levels (vec_capacity w.fallen) };
 }
@@ -65,8 +66,8 @@ impl Waves {
         ensures { IfOk result (λ waves. waves.feeders ≡ feeders_of (N.net net.now)) }
     {
         let cells = net.cells() as usize;
-        let mut feeders = CellLists::new(alloc, cells, 0)?;
-        let mut fed = CellLists::new(alloc, cells, 0)?;
+        let mut feeders = Lists::new(alloc, cells)?;
+        let mut fed = Lists::new(alloc, cells)?;
         for cell in 0..net.cells() {
             for index in 0..net.feeder_count(cell) {
                 let feeder = net.feeder(cell, index);
@@ -74,6 +75,8 @@ impl Waves {
                 fed.push(feeder as usize, cell)?;
             }
         }
+        let feeders = rows_from(alloc, &feeders)?;
+        let fed = rows_from(alloc, &fed)?;
         let fallen = Vec::with_capacity(alloc, cells)?;
         let levels = CellLists::new(alloc, 16, cells)?;
         Ok(Waves {

@@ -1,5 +1,5 @@
 use Rattle.std.proofs.Common.{ℕ, List, length, sym, ap, ◌∙◌}
-use Rattle.wire_net.specs.Listed.{length-items_of}
+use Rattle.number_rows.specs.Listed.{length-items_of}
 use Rattle.number_rows.proofs.lists.Lists.count.Goals as goal
 
 pub returns : goal.returns

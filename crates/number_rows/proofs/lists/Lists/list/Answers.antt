@@ -1,5 +1,5 @@
 use Rattle.std.proofs.Common.{arith, ◌<◌, sym, length}
-use Rattle.wire_net.specs.Listed.{items_of, items_of-at, length-items_of}
+use Rattle.number_rows.specs.Listed.{items_of, items_of-at, length-items_of}
 use Rattle.number_rows.proofs.lists.Lists.list.Goals as goal
 
 pub index-requires : goal.index-requires

@@ -1,5 +1,5 @@
 use Rattle.std.proofs.Common.{◌∙◌, ap, [], ◌∷◌, ◌++◌, replicate, List, ℕ}
-use Rattle.wire_net.specs.Listed.{items_of-more, replicate-more}
+use Rattle.number_rows.specs.Listed.{items_of-more, replicate-more}
 use Rattle.number_rows.proofs.lists.Lists.new.Goals as goal
 
 pub loop-made-preserved : goal.loop-made-preserved

@@ -1,5 +1,5 @@
 use Rattle.std.proofs.Common.{◌≡◌, [], replicate}
-use Rattle.wire_net.specs.Listed.{items_of}
+use Rattle.number_rows.specs.Listed.{items_of}
 use Rattle.number_rows.proofs.lists.Lists.new.Given as goal
 
 abbrev pub invariant-loop-made : goal.invariant-loop-made

@@ -1,5 +1,5 @@
 use Rattle.std.proofs.Common.{arith, ◌<◌, ◌∙◌, sym, ap, length, List, ℕ, [], ◌∷◌, ◌++◌, set}
-use Rattle.wire_net.specs.Listed.{items_of, items_of-at, items_of-set, length-items_of}
+use Rattle.number_rows.specs.Listed.{items_of, items_of-at, items_of-set, length-items_of}
 use Rattle.number_rows.proofs.lists.Lists.push.Goals as goal
 
 pub index_mut-requires : goal.index_mut-requires

@@ -6,17 +6,17 @@ use Rattle.wire_net.proofs.work.Waves.new.Given as goal
 
 abbrev pub invariant-loop-cell : goal.invariant-loop-cell
 invariant-loop-cell g l = record {
-  turned : IsTurned l.feeders.lists l.fed.lists;
-  long : length l.feeders.lists ≡ length (g.N.Net.net l.net);
-  done : (i : ℕ) → i < l.cell → list_at l.feeders.lists i ≡ (cell_at (g.N.Net.net l.net) i).feeders;
-  rest : (i : ℕ) → l.cell ≤ i → list_at l.feeders.lists i ≡ [];
+  turned : IsTurned l.feeders l.fed;
+  long : length l.feeders ≡ length (g.N.Net.net l.net);
+  done : (i : ℕ) → i < l.cell → list_at l.feeders i ≡ (cell_at (g.N.Net.net l.net) i).feeders;
+  rest : (i : ℕ) → l.cell ≤ i → list_at l.feeders i ≡ [];
 }
 
 abbrev pub invariant-loop-index : goal.invariant-loop-index
 invariant-loop-index g l = record {
-  turned : IsTurned l.feeders.lists l.fed.lists;
-  long : length l.feeders.lists ≡ length (g.N.Net.net l.net);
-  done : (i : ℕ) → i < l.cell → list_at l.feeders.lists i ≡ (cell_at (g.N.Net.net l.net) i).feeders;
-  now : list_at l.feeders.lists l.cell ≡ take l.index (cell_at (g.N.Net.net l.net) l.cell).feeders;
-  rest : (i : ℕ) → l.cell < i → list_at l.feeders.lists i ≡ [];
+  turned : IsTurned l.feeders l.fed;
+  long : length l.feeders ≡ length (g.N.Net.net l.net);
+  done : (i : ℕ) → i < l.cell → list_at l.feeders i ≡ (cell_at (g.N.Net.net l.net) i).feeders;
+  now : list_at l.feeders l.cell ≡ take l.index (cell_at (g.N.Net.net l.net) l.cell).feeders;
+  rest : (i : ℕ) → l.cell < i → list_at l.feeders i ≡ [];
 }
