@@ -74,12 +74,10 @@ fn place_for(links: &[Link], group: Group) -> usize
 }
 
 fn count_of_back_links(links: &[Link]) -> usize
+    requires { in_groups links.now ≡ links.now }
     ensures { result ≡ count_by (of_group BackGroup) links.now }
 {
-    links
-        .iter()
-        .filter(|link| link.group == Group::Back)
-        .count()
+    links.partition_point(|link| link.group == Group::Back)
 }
 
 fn rename_links(links: &mut [Link], keep: NodeKey, gone: NodeKey)
