@@ -72,7 +72,7 @@ back_is_not_side : (group : Group) → is_group Back group ≡ true → is_group
 back_is_not_side Back h = refl
 back_is_not_side Side h = absurd (cc)
 
-side_is_not_back : (group : Group) → is_group Side group ≡ true → is_group Back group ≡ false
+pub side_is_not_back : (group : Group) → is_group Side group ≡ true → is_group Back group ≡ false
 side_is_not_back Side h = refl
 side_is_not_back Back h = absurd (cc)
 

@@ -1,6 +1,7 @@
 pub mod NodeSteps
 pub mod Parts
 pub mod GroupSteps
+pub mod GroupPoint
 pub mod EditSteps
 pub mod ClickSteps
 pub mod TextSteps

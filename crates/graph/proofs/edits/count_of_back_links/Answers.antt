@@ -1,5 +1,5 @@
 -- They stand before the Side links, so a search by halves finds their end.
-use Rattle.std.proofs.Common.{arith, rules}
+use Rattle.std.proofs.Common.{rules}
 use Rattle.std.proofs.lemmas.List.Sorted.{IsPartitionPoint-from_clause}
 use Rattle.graph.specs.declared.Group.TheVariants.{Back}
 use Rattle.graph.specs.Links.{of_group}
