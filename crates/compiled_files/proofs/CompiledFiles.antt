@@ -1,6 +1,5 @@
 -- What the graph of a file has of the build that it was written of.
-use Rattle.std.proofs.Common.{◌≡◌, ℕ, ◌<◌, List, [], ◌∷◌, refl, sym, ap, ◌∙◌, subst, arith}
-use Rattle.std.proofs.lemmas.Int.{ints}
+use Rattle.std.proofs.Common.{◌≡◌, ℕ, ◌<◌, List, [], ◌∷◌, sym, ap, ◌∙◌, subst, arith}
 use Rattle.circuit.specs.declared.Act.{Act}
 use Rattle.circuit.specs.declared.Act.TheVariants.{Click as ClickAct, Ticks as TicksAct}
 use Rattle.circuit.specs.declared.Click.{Click}
@@ -11,8 +10,7 @@ use Rattle.circuit.specs.Matches.{Matches}
 use Rattle.circuit.specs.Shows.{Shows}
 use Rattle.circuit.specs.Taken.{Takes, EachActTaken}
 use Rattle.build.specs.Outputs.{outputs}
-use Rattle.build.specs.Plan.{Plan, IsWhole, IsNear, volume}
-use Rattle.node_arena.specs.Items.{keys_of}
+use Rattle.build.specs.Plan.{Plan, IsWhole, IsNear}
 use Rattle.graph.specs.Graph.{Nodes, node_count, link_count}
 use Rattle.graph.specs.GraphCircuit.{graph_circuit}
 use Rattle.graph.specs.Sound.{places_of}

@@ -4,7 +4,7 @@ use Rattle.std.specs.Prelude.{option_map}
 use Rattle.std.proofs.lemmas.Bool.{cases_eq}
 use Rattle.graph.specs.AtKeys.{at_other, at_dropped, at_changed, at_mapped}
 use Rattle.graph.specs.Done.{Step}
-use Rattle.graph.specs.Edits.{change, without_link, drop_link, folded, fold_to, renamed, standing_for, merge, drop_set}
+use Rattle.graph.specs.Edits.{change, without_link, drop_link, folded, renamed, standing_for, merge, drop_set}
 use Rattle.graph.specs.Graph.{Node, Nodes, node_at}
 use Rattle.graph.specs.Steps.{AreTwins}
 use Rattle.pass_frame.specs.Frame.{Reaches, Stays, Goes}
