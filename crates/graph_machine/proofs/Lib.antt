@@ -9,3 +9,4 @@ pub mod ShownSteps
 pub mod WiringSteps
 pub mod StartSteps
 mod Rows
+pub mod HeadedSteps

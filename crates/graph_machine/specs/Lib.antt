@@ -8,3 +8,4 @@ pub mod Places
 pub mod Shown
 pub mod Wiring
 pub mod Started
+pub mod Headed
