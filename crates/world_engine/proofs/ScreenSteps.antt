@@ -1,12 +1,16 @@
 -- Outputs that are kept right while things attend and levels change.
-use Rattle.std.proofs.Common.{◌≡◌, ◌≢◌, ℕ, ◌+◌, ◌<◌, ◌≤◌, List, length, map, set, get_or, slice_index, Option, Some, None, refl, sym, ◌∙◌, ap, subst, inl, inr, ◌⊎◌, arith}
+use Rattle.std.proofs.Common.{◌≡◌, ◌≢◌, ℕ, ◌+◌, ◌<◌, ◌≤◌, List, [], length, map, set, get_or, slice_index, Option, Some, None, refl, sym, ◌∙◌, ap, subst, inl, inr, ◌⊎◌, arith}
 use Rattle.std.proofs.lemmas.List.{get_or-map, get_or_past, get_or-set_same, get_or-set_other, length-map}
 use Rattle.std.proofs.lemmas.Bool.{cases_lt}
 use Rattle.circuit.specs.declared.Cell.{Cell}
 use Rattle.cell_queue.specs.Held.{Holding, TakesFirst, cell_of, nothing, rested}
 use Rattle.wire_net.specs.Laws.{nat_same}
+use Rattle.wire_net.specs.Listed.{list_at}
+use Rattle.wire_net.specs.Noted.{Waved, IsNoted}
+use Rattle.wire_net.specs.WaveSteps.{Has}
+use Rattle.wire_net.proofs.Lists.{has-empty}
 use Rattle.world_engine.specs.Outlets.{Outlet, Blank, Level, Value}
-use Rattle.world_engine.specs.Screens.{Screened, screen_of, number_in, face, nth_outlet, ArePlaced, AreFaced, Refaced, AmongFirst}
+use Rattle.world_engine.specs.Screens.{Screened, screen_of, number_in, face, nth_outlet, ArePlaced, AreFaced, Refaced, AmongFirst, InFirst, NoThing}
 
 -- ---- one output anew
 
@@ -113,6 +117,64 @@ refaced_fewer levels a b s t D E h f = record {
   each = f.each;
   done = λ i n has e. f.done i n has (h n e);
 }
+
+-- ---- along a list
+
+-- what a list has at an index, and then its readers, after the first ones
+pub refaced_next : (levels taps : List ℕ) (i : ℕ) (a b c : List Cell) (s t u v : Screened) → Refaced levels a b s t (AmongFirst taps i) → Refaced levels b b t u (λ n. n ≡ slice_index taps i) → Refaced levels b c u v NoThing →
+    Refaced levels a c s v (AmongFirst taps (i + 1))
+refaced_next levels taps i a b c s t u v f g h =
+    refaced_then levels a b c s u v (AmongFirst taps (i + 1)) NoThing (AmongFirst taps (i + 1)) (λ n x. inl x) (refaced_then levels a b b s t u (AmongFirst taps i) (λ n. n ≡ slice_index taps i) (AmongFirst taps (i + 1)) split f g) h
+  where
+    split : (n : ℕ) → AmongFirst taps (i + 1) n → AmongFirst taps i n ⊎ (n ≡ slice_index taps i)
+    split n (k, low, short, there) = elim (nat_same k i) [
+      | inl e ↦ inr (sym there ∙ ap (slice_index taps) e)
+      | inr apart ↦ inl (k, omega arith, short, there)
+    ]
+
+pub refaced_taps : (levels taps : List ℕ) (i : ℕ) (a b : List Cell) (s t : Screened) → length taps ≤ i → Refaced levels a b s t (AmongFirst taps i) → Refaced levels a b s t (Has taps)
+refaced_taps levels taps i a b s t past f = refaced_fewer levels a b s t (AmongFirst taps i) (Has taps) found f
+  where
+    found : (n : ℕ) → Has taps n → AmongFirst taps i n
+    found n (k, low, short, there) = (k, omega arith, short, there)
+
+pub refaced_begin : (levels : List ℕ) (lists : List (List ℕ)) (number : ℕ) (fallen : List ℕ) (a b c : List Cell) (s t u : Screened) → Refaced levels a b s t (λ n. n ≡ number) → Refaced levels b c t u (Has fallen) →
+    Refaced levels a c s u (λ n. ((n ≡ number) ⊎ Has fallen n) ⊎ InFirst lists 0 n)
+refaced_begin levels lists number fallen a b c s t u f g = refaced_then levels a b c s t u (λ n. n ≡ number) (Has fallen) (λ n. ((n ≡ number) ⊎ Has fallen n) ⊎ InFirst lists 0 n) split f g
+  where
+    split : (n : ℕ) → ((n ≡ number) ⊎ Has fallen n) ⊎ InFirst lists 0 n → (n ≡ number) ⊎ Has fallen n
+    split n (inl h) = h
+    split n (inr (power, low, h)) = absurd (none power low)
+      where
+        none : (k : ℕ) → k < 0 → ⊥
+        none k l = omega arith
+
+pub refaced_power : (levels : List ℕ) (lists : List (List ℕ)) (i : ℕ) (D : ℕ → Type 0) (a b c : List Cell) (s t u : Screened) → Refaced levels a b s t (λ n. D n ⊎ InFirst lists i n) → Refaced levels b c t u (Has (list_at lists i)) →
+    Refaced levels a c s u (λ n. D n ⊎ InFirst lists (i + 1) n)
+refaced_power levels lists i D a b c s t u f g = refaced_then levels a b c s t u (λ n. D n ⊎ InFirst lists i n) (Has (list_at lists i)) (λ n. D n ⊎ InFirst lists (i + 1) n) split f g
+  where
+    split : (n : ℕ) → D n ⊎ InFirst lists (i + 1) n → (D n ⊎ InFirst lists i n) ⊎ Has (list_at lists i) n
+    split n (inl d) = inl (inl d)
+    split n (inr (power, low, h)) = elim (nat_same power i) [
+      | inl e ↦ inr (subst (λ (k : ℕ). Has (list_at lists k) n) e h)
+      | inr apart ↦ inl (inr (power, omega arith, h))
+    ]
+
+pub refaced_told : (levels : List ℕ) (waves : Waved) (i number : ℕ) (a b : List Cell) (s t : Screened) → length waves.levels ≤ i → Refaced levels a b s t (λ n. ((n ≡ number) ⊎ Has waves.fallen n) ⊎ InFirst waves.levels i n) →
+    Refaced levels a b s t (λ n. (n ≡ number) ⊎ IsNoted waves n)
+refaced_told levels waves i number a b s t past f =
+    refaced_fewer levels a b s t (λ n. ((n ≡ number) ⊎ Has waves.fallen n) ⊎ InFirst waves.levels i n) (λ n. (n ≡ number) ⊎ IsNoted waves n) found f
+  where
+    low : (n power : ℕ) → Has (list_at waves.levels power) n → power < i
+    low n power h = elim (cases_lt power i) [
+      | inl l ↦ l
+      | inr high ↦ has-empty (list_at waves.levels power) n (get_or_past waves.levels power [] (omega arith)) h
+    ]
+
+    found : (n : ℕ) → (n ≡ number) ⊎ IsNoted waves n → ((n ≡ number) ⊎ Has waves.fallen n) ⊎ InFirst waves.levels i n
+    found n (inl e) = inl (inl e)
+    found n (inr (inl h)) = inl (inr h)
+    found n (inr (inr (power, h))) = inr (power, low n power h, h)
 
 -- ---- all outputs
 

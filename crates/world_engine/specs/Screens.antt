@@ -2,6 +2,8 @@
 use Rattle.std.specs.Prelude.{◌≡◌, ℕ, ◌<◌, ◌⊎◌, List, length, get_or, slice_index, Option, Some, None}
 use Rattle.circuit.specs.declared.Cell.{Cell}
 use Rattle.cell_queue.specs.Held.{cell_of}
+use Rattle.wire_net.specs.Listed.{list_at}
+use Rattle.wire_net.specs.WaveSteps.{Has}
 use Rattle.world_engine.specs.Outlets.{Outlet, Blank, Level, Value}
 
 -- for so many things: how each output is shown, and what each shows
@@ -64,6 +66,10 @@ pub record Refaced (levels : List ℕ) (old new : List Cell) (s t : Screened) (D
 -- one of the first i of a list
 abbrev pub AmongFirst : List ℕ → ℕ → ℕ → Type 0
 AmongFirst list i n = (k : ℕ) × (k < i) × (k < length list) × (slice_index list k ≡ n)
+
+-- in one of the first lists
+abbrev pub InFirst : List (List ℕ) → ℕ → ℕ → Type 0
+InFirst lists bound n = (power : ℕ) × (power < bound) × Has (list_at lists power) n
 
 abbrev pub NoThing : ℕ → Type 0
 NoThing n = ⊥
