@@ -204,6 +204,10 @@ faced_anew before after cells held new s t number Noted faced others noted r = r
       ]
     ]
 
+-- one cell is another one
+pub others_stay : (old new : Holding) (key : ℕ) (cell : Cell) → new ≡ record { time = old.time; cells = set old.cells key cell } → (k : ℕ) → k ≢ key → cell_of new.cells k ≡ cell_of old.cells k
+others_stay old new key cell is k apart = ap (λ (h : Holding). cell_of h.cells k) is ∙ get_or-set_other old.cells key k cell nothing apart
+
 -- a tick that is taken changes no value
 faced_values : (levels : List ℕ) (a b : List Cell) → ((k : ℕ) → (cell_of b k).value ≡ (cell_of a k).value) → (o : Outlet) → face levels b o ≡ face levels a o
 faced_values levels a b same Blank = refl

@@ -158,7 +158,8 @@ impl Screen {
 
     /// What the outputs show.
     pub(crate) fn shown(&self) -> &[u8]
-        ensures { result.now ≡ self.now.shown }
+        ensures value { result.now ≡ self.now.shown }
+        ensures whole { length self.now.shown ≡ length self.now.outlets }
     {
         &self.shown
     }
