@@ -1,21 +1,18 @@
 -- No thing is shown by two outputs.
-use Rattle.std.proofs.Common.{◌≡◌, ◌≢◌, ℕ, zero, suc, ◌+◌, ◌<◌, ◌≤◌, Bool, List, [], ◌∷◌, length, map, get_or, slice_index, Option, Some, None, refl, sym, ◌∙◌, ap, subst, inl, inr, ◌⊎◌, arith}
+use Rattle.std.proofs.Common.{◌≡◌, ◌≢◌, ℕ, zero, suc, ◌+◌, ◌<◌, ◌≤◌, List, [], ◌∷◌, length, get_or, Option, Some, None, refl, sym, ◌∙◌, ap, subst, inl, inr, ◌⊎◌, arith}
 use Rattle.std.specs.List.{filter_map}
-use Rattle.std.proofs.lemmas.List.{get_or-map, get_or_past, length-map}
+use Rattle.std.proofs.lemmas.List.{get_or_past, length-map}
 use Rattle.std.proofs.lemmas.Bool.{cases_lt}
 use Rattle.circuit.specs.declared.Pos.{Pos}
-use Rattle.circuit.specs.declared.Component.{Component}
 use Rattle.circuit.specs.Circuit.{Each, EachBefore}
 use Rattle.build.specs.declared.OutPlace.{OutPlace}
 use Rattle.build.specs.declared.OutKind.{OutKind}
 use Rattle.build.specs.Plan.{Plan, places}
 use Rattle.build.specs.Places.{length-places}
 use Rattle.build.specs.Outputs.{out_place, shown_at, outputs}
-use Rattle.build.specs.Roles.{role_at}
 use Rattle.power_rules.proofs.Listed.{world_listed}
 use Rattle.wire_net.specs.Laws.{nat_same}
-use Rattle.wiring.specs.Things.{Numbered, IsNumbered, number_at, spot}
-use Rattle.wiring.specs.Numbers.{spot-there}
+use Rattle.wiring.specs.Things.{Numbered, IsNumbered, spot}
 use Rattle.world_engine.specs.Outlets.{Outlet, Blank, Level, Value, outlet_at, outlet_under, outlets_of}
 use Rattle.world_engine.specs.Screens.{number_in, nth_outlet, ArePlaced, ArePlacedBelow, IsPut}
 use Rattle.world_engine.proofs.Shown.{level_there, value_there, outlet_of_output, no_output}

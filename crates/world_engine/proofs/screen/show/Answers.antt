@@ -1,4 +1,4 @@
-use Rattle.std.proofs.Common.{◌∙◌, refl, arith}
+use Rattle.std.proofs.Common.{refl, arith}
 use Rattle.world_engine.proofs.ScreenSteps.{refaced_put, refaced_past}
 use Rattle.world_engine.proofs.screen.show.Goals as goal
 

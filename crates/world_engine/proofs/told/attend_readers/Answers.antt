@@ -1,7 +1,7 @@
 use Rattle.std.proofs.Common.{◌≡◌, ◌∙◌, inl}
 use Rattle.wiring.specs.Things.{spot}
 use Rattle.world_engine.specs.Screens.{NoThing}
-use Rattle.world_engine.proofs.ScreenSteps.{refaced_none, refaced_then}
+use Rattle.world_engine.proofs.ScreenSteps.{refaced_then}
 use Rattle.world_engine.proofs.ToldSteps.{by_time, first_next, readers_all}
 use Rattle.world_engine.proofs.told.attend_readers.Goals as goal
 

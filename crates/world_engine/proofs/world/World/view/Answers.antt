@@ -1,4 +1,4 @@
-use Rattle.std.proofs.Common.{◌≤◌, map, sym, ap, ◌∙◌}
+use Rattle.std.proofs.Common.{◌≤◌, map, ap, ◌∙◌}
 use Rattle.std.proofs.lemmas.List.Elements.{All-same}
 use Rattle.circuit.specs.Circuit.{view}
 use Rattle.build.specs.Outputs.{outputs}
