@@ -6,5 +6,6 @@ pub mod Wired
 pub mod Playing
 pub mod Places
 pub mod Shown
+pub mod Screens
 pub mod Wiring
 pub mod Started
