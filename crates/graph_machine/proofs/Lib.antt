@@ -5,6 +5,7 @@ pub mod PlaySteps
 pub mod FireSteps
 pub mod TickSteps
 pub mod PlaceSteps
+pub mod ScreenSteps
 pub mod ShownSteps
 pub mod WiringSteps
 pub mod StartSteps

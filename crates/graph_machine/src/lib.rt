@@ -11,6 +11,7 @@ mod machine;
 mod net;
 mod outputs;
 mod places;
+mod screen;
 mod steps;
 mod wiring;
 
