@@ -1,5 +1,5 @@
 -- What is held by the cells can be stored there, and its ticks may wait there.
-use Rattle.std.proofs.Common.{◌≡◌, ◌≢◌, ℕ, ◌-◌, ◌<◌, ◌≤◌, Bool, true, false, not, cond, List, length, Option, Some, None, refl, sym, ap, ◌∙◌, subst, arith, inl, inr}
+use Rattle.std.proofs.Common.{◌≡◌, ℕ, ◌-◌, ◌≤◌, Bool, true, false, not, cond, List, Option, Some, None, refl, sym, ap, ◌∙◌, subst, arith, inl, inr}
 use Rattle.std.specs.Prelude.{◌==◌, ◌&&◌, nat_lt, nat_le, option_map}
 use Rattle.std.proofs.lemmas.Bool.{cases_lt, and_from, lt-ltb, le-leb, eqb-false, false≢true}
 use Rattle.std.proofs.lemmas.List.{get_or_past}
@@ -13,11 +13,9 @@ use Rattle.circuit.specs.Circuit.{State}
 use Rattle.circuit.specs.Component.{top}
 use Rattle.build.specs.declared.Pending.{Pending}
 use Rattle.build.specs.Plan.{Plan, volume, block_at, place_of, is_ticking, is_timely, may_wait}
-use Rattle.cell_queue.specs.Held.{wait_of}
-use Rattle.cell_queue.specs.declared.cells.Wait.{Wait}
 use Rattle.graph.specs.declared.Kind.{Kind}
 use Rattle.graph.specs.declared.Kind.TheVariants.{Wire as WireNode, Constant}
-use Rattle.graph.specs.Graph.{Nodes, node_at}
+use Rattle.graph.specs.Graph.{Nodes}
 use Rattle.graph.specs.GraphCircuit.{role_of as node_role_of, role_at as node_role_at}
 use Rattle.graph.specs.Sound.{IsSound, can_wait}
 use Rattle.compiler.specs.MayWait.{MayWait}
@@ -25,7 +23,7 @@ use Rattle.compiler.proofs.Waits.{ticks_at, kind_ticks, block_ticks}
 use Rattle.handover.specs.declared.held.Held.{Held}
 use Rattle.handover.specs.Ended.{HasItsBlocks, IsPlayed}
 use Rattle.handover.specs.GivenBack.{has_state, keeper, held_under, held_at, given_block, waiting_for, given_tick}
-use Rattle.handover.specs.HeldByCell.{in_cell, IsSoon, IsTimely, AreTimely, AreHeld, IsSmall, AreSmall, tick_by, with_levels_by, AreTicking}
+use Rattle.handover.specs.HeldByCell.{in_cell, IsSoon, IsTimely, AreTimely, AreHeld, IsSmall, AreSmall, with_levels_by, AreTicking}
 use Rattle.handover.proofs.Keepers.{KeptBy, keeper_so, is_place_of}
 use Rattle.handover.proofs.Parts.{block_by-there}
 use Rattle.handover.proofs.Saved.{played_bounded, played_waits}

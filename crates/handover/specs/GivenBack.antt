@@ -1,5 +1,5 @@
 -- A build to which the end of a run of a graph is handed back.
-use Rattle.std.specs.Prelude.{◌≡◌, ℕ, Bool, true, false, ◌&&◌, nat_lt, map, find, List, [], ◌∷◌, Option, Some, None, option_map}
+use Rattle.std.specs.Prelude.{◌≡◌, ℕ, Bool, true, false, ◌&&◌, nat_lt, map, find, ◌∷◌, Option, Some, None, option_map}
 use Rattle.std.specs.List.{list_any, filter_map}
 use Rattle.block_table.specs.declared.Block.{Block}
 use Rattle.block_table.specs.declared.Block.TheVariants.{Air, Inert, Slab, Wire as WireBlock, Torch as TorchBlock, WallTorch, Repeater as RepeaterBlock, Comparator as ComparatorBlock, Lever as LeverBlock, Button as ButtonBlock, Plate as PlateBlock, RedstoneBlock, Lamp as LampBlock, Trapdoor as TrapdoorBlock, Container, Composter, Cauldron, Cake, Weighted as WeightedBlock, Note as NoteBlock}

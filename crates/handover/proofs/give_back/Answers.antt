@@ -1,5 +1,4 @@
-use Rattle.std.proofs.Common.{◌≡◌, List, Option, sym, ap, ◌∙◌, subst}
-use Rattle.build.specs.Plan.{Plan}
+use Rattle.std.proofs.Common.{List, Option, sym, ap, ◌∙◌, subst}
 use Rattle.graph_machine.specs.Playing.{state_in}
 use Rattle.handover.specs.declared.held.Held.{Held}
 use Rattle.handover.specs.HeldByCell.{AreSmall, AreTicking, with_ticks_by}

@@ -1,12 +1,11 @@
 use Rattle.std.specs.Vec.{with_items}
-use Rattle.std.proofs.Common.{rules, ◌≡◌, ℕ, ◌++◌, ◌∷◌, [], List, Option, Some, None, length, replicate, sym, ap, ◌∙◌, subst, arith}
+use Rattle.std.proofs.Common.{rules, ◌≡◌, ◌++◌, ◌∷◌, [], List, Option, length, replicate, sym, ap, ◌∙◌, subst}
 use Rattle.std.proofs.lemmas.List.{with_items_is, length-replicate}
-use Rattle.build.specs.Plan.{volume}
 use Rattle.graph.specs.Graph.{node_at}
 use Rattle.graph_machine.specs.Playing.{state_in}
 use Rattle.handover.specs.declared.held.Held.{Held}
 use Rattle.handover.specs.GivenBack.{keeps, held_under}
-use Rattle.handover.specs.HeldByCell.{Notes, AreTimely, AreHeld}
+use Rattle.handover.specs.HeldByCell.{Notes, AreTimely}
 use Rattle.handover.proofs.Popped.{nothing_held, AreNoted, popped, none_popped, none_noted, none_timely, still_popped, noted_next, all_noted}
 use Rattle.handover.proofs.held.held_by_cell.Goals as goal
 
