@@ -6,11 +6,11 @@ use Rattle.serde_json.specs.Written.{compact_text}
 use Rattle.graph.specs.declared.Kind.{Kind}
 use Rattle.graph.specs.declared.Kind.TheVariants.{Lever, Button, Plate, Weighted, Torch, Repeater, Comparator, Lamp, Trapdoor, Note, Wire, Constant}
 use Rattle.graph.specs.declared.Link.{Link}
-use Rattle.graph.specs.Graph.{Node, Nodes}
+use Rattle.graph.specs.Graph.{Node, Nodes, node_count}
 use Rattle.graph.specs.GraphCircuit.{role_of}
-use Rattle.graph.specs.Sound.{top_of, IsKindInRange, IsSoundNode}
-use Rattle.graph_file.specs.FitsFile.{FitsFile}
-use Rattle.graph_file.specs.GraphFile.{IsGraphFile}
+use Rattle.graph.specs.Sound.{top_of, IsKindInRange, IsSoundNode, IsSound, places_of}
+use Rattle.graph_file.specs.FitsFile.{IsFilePlace, FitsFile}
+use Rattle.graph_file.specs.GraphFile.{IsJson, IsGraphFile}
 use Rattle.graph_file.specs.Json.{number_of, with_sources, packed, entries_data, link_data, links_data, json, json_text}
 use Rattle.graph_file.proofs.ReadBack.{full, IsFileNode, IsLinkOf, nodes_by, packed_full, each_node, file_node_at, links_below, length_keys, length_nodes, each_append, each_as, each_map, read_back}
 use Rattle.graph_file.proofs.TextBack.{IsText, IsSmallKind, IsTextNode, node_text, link_text, whole_text, text_back}
@@ -69,13 +69,9 @@ links_text count to (n ∷ ns) few small e =
     (each_as (IsLinkOf count) (λ (link : Link). IsText 3 (link_data to link)) n.links (λ link h. link_text to link (omega arith) (omega (arith, h.0), omega (arith, h.1))) e.0))
     (links_text count (suc to) ns (omega arith) small e.1)
 
-pub file_back : (g : Nodes) → FitsFile g → IsGraphFile (json_text g) (packed g)
-file_back g fits = record {
-  value = json (packed g);
-  json = record { text = back.1; value = back.0 };
-  accepted = (read_back g fits).0;
-  means = sym (read_back g fits).1;
-}
+-- The text of a sound graph of few nodes whose places have numbers in range is JSON of its value, however many links it has.
+pub text_is_json : (g : Nodes) → IsSound g → node_count g < 4294967295 → Each IsFilePlace (places_of g) → IsJson (json_text g) (json (packed g))
+text_is_json g sound few_nodes places = record { text = back.1; value = back.0 }
   where
     ns : List Node
     ns = nodes_by (number_of g) g
@@ -84,19 +80,27 @@ file_back g fits = record {
     is_full = packed_full (number_of g) g
 
     each_text : Each IsTextNode ns
-    each_text = each_node IsTextNode (number_of g) g (λ k node e. again node (written_in_full g node (fits.sound.each k node e) (file_node_at g fits.places k node e)))
+    each_text = each_node IsTextNode (number_of g) g (λ k node e. again node (written_in_full g node (sound.each k node e) (file_node_at g places k node e)))
       where
         again : (node : Node) → IsTextNode node → IsTextNode (with_sources (number_of g) node)
         again node h = record { place = h.place; also = h.also; kind = h.kind; state = h.state; due = h.due; priority = h.priority }
 
     below : Each (λ (n : Node). Each (IsLinkOf (length ns)) n.links) ns
-    below = each_node (λ (n : Node). Each (IsLinkOf (length ns)) n.links) (number_of g) g (λ k node e. links_below g (length ns) node (omega (arith, length_keys (number_of g) 0 g)) (fits.sound.each k node e))
+    below = each_node (λ (n : Node). Each (IsLinkOf (length ns)) n.links) (number_of g) g (λ k node e. links_below g (length ns) node (omega (arith, length_keys (number_of g) 0 g)) (sound.each k node e))
 
     nodes : Each (IsText 3) (entries_data (packed g))
     nodes = subst (λ (p : Nodes). Each (IsText 3) (entries_data p)) (sym is_full) (nodes_text ns each_text)
 
     links : Each (IsText 3) (links_data 0 (packed g))
-    links = subst (λ (p : Nodes). Each (IsText 3) (links_data 0 p)) (sym is_full) (links_text (length ns) 0 ns (omega arith) (omega (arith, length_nodes (number_of g) g, fits.few_nodes)) below)
+    links = subst (λ (p : Nodes). Each (IsText 3) (links_data 0 p)) (sym is_full) (links_text (length ns) 0 ns (omega arith) (omega (arith, length_nodes (number_of g) g, few_nodes)) below)
 
     back : (read (compact_text (json (packed g)) ++ 10 ∷ []) ≡ Some (json (packed g))) × IsUtf8 (compact_text (json (packed g)) ++ 10 ∷ [])
     back = text_back (links_data 0 (packed g)) (entries_data (packed g)) (whole_text (links_data 0 (packed g)) (entries_data (packed g)) links nodes)
+
+pub file_back : (g : Nodes) → FitsFile g → IsGraphFile (json_text g) (packed g)
+file_back g fits = record {
+  value = json (packed g);
+  json = text_is_json g fits.sound fits.few_nodes fits.places;
+  accepted = (read_back g fits).0;
+  means = sym (read_back g fits).1;
+}

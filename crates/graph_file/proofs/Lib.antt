@@ -15,3 +15,4 @@ pub mod TargetSteps
 pub mod ReadBack
 pub mod TextBack
 pub mod FileBack
+pub mod OneFile

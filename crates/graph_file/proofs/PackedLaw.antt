@@ -154,7 +154,7 @@ each_keys P (o ∷ outs) e = (e.0, each_keys P outs e.1)
 
 -- ---- the law
 
-packed_matches : (g : Nodes) → IsSound g → Matches (graph_circuit g) (graph_circuit (packed g)) (λ n. get_or (keys_of g) n 0) (λ n. n < length (keys_of g)) (λ s. Unit {0})
+pub packed_matches : (g : Nodes) → IsSound g → Matches (graph_circuit g) (graph_circuit (packed g)) (λ n. get_or (keys_of g) n 0) (λ n. n < length (keys_of g)) (λ s. Unit {0})
 packed_matches g sound = record {
   apart = λ a b la lb e. sym (number_at a la) ∙ ap (number_of g) e ∙ number_at b lb;
   lives = λ k component e. lives k component e;

@@ -347,7 +347,7 @@ length_entries : (ns : List Node) → length (entries_data (full ns)) ≡ length
 length_entries [] = refl
 length_entries (n ∷ ns) = ap suc (length_entries ns)
 
-length_links : (renumber : ℕ → ℕ) (to : ℕ) (g : Nodes) → length (links_data to (full (nodes_by renumber g))) ≡ link_count g
+pub length_links : (renumber : ℕ → ℕ) (to : ℕ) (g : Nodes) → length (links_data to (full (nodes_by renumber g))) ≡ link_count g
 length_links renumber to [] = refl
 length_links renumber to (None ∷ g) =
     let e : link_count (None ∷ g) ≡ 0 + link_count g = sum_by-cons links_into None g in

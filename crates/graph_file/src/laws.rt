@@ -1,17 +1,19 @@
 //! Laws of graph files. Each is a function with nothing to do whose contract is the law.
 
-ghost use Rattle.std.specs.Prelude.{◌≡◌, ◌≢◌, Some, None};
+ghost use Rattle.std.specs.Prelude.{◌≡◌, ◌≢◌, ◌<◌, ℕ, List, Some, None};
 ghost use Rattle.circuit.specs.declared.Act.{Act};
+ghost use Rattle.circuit.specs.Circuit.{Each};
 ghost use Rattle.circuit.specs.Shows.{Refines};
 ghost use Rattle.circuit.specs.Taken.{EachActTaken};
-ghost use Rattle.graph.specs.Graph.{Nodes};
+ghost use Rattle.graph.specs.Graph.{Nodes, node_count};
 ghost use Rattle.graph.specs.GraphCircuit.{graph_circuit};
-ghost use Rattle.graph.specs.Sound.{IsSound};
+ghost use Rattle.graph.specs.Links.{IsInGroups};
+ghost use Rattle.graph.specs.Sound.{IsSound, places_of};
 ghost use Rattle.report.specs.declared.GraphRefusal.TheVariants.{Json as JsonRefusal};
 ghost use Rattle.script.specs.Acts.{Meaning};
 ghost use Rattle.script.specs.Fit.{IsFit};
 ghost use Rattle.serde_json.specs.Data.{Data};
-ghost use Rattle.graph_file.specs.FitsFile.{FitsFile};
+ghost use Rattle.graph_file.specs.FitsFile.{IsFilePlace, FitsFile};
 ghost use Rattle.graph_file.specs.GraphFile.{cause_of, graph_of, IsGraphFile};
 ghost use Rattle.graph_file.specs.Json.{json, json_text, packed};
 ghost use Rattle.graph_file.specs.Targets.{takes_click, is_wire_at};
@@ -36,6 +38,18 @@ pub fn what_is_written_is_read()
 /// renumbered.
 pub fn what_is_written_is_a_file()
     ensures { (g : Nodes) → FitsFile g → IsGraphFile (json_text g) (packed g) }
+{}
+
+/// Bytes are a file of one graph at most.
+pub fn a_file_has_one_graph()
+    ensures { (bytes : List ℕ) (a b : Nodes) → IsGraphFile bytes a → IsGraphFile bytes b → a ≡ b }
+{}
+
+/// Where the text that is written of a graph is a file, it is one of the graph with its nodes
+/// renumbered. How many links the graph has need not be known, since a file has few.
+pub fn a_text_is_no_other_file()
+    ensures { (g : Nodes) → IsSound g → IsInGroups g → node_count g < 4294967295 → Each IsFilePlace (places_of g) →
+        (file : Nodes) → IsGraphFile (json_text g) file → file ≡ packed g }
 {}
 
 /// No value is refused as no JSON.

@@ -10,3 +10,4 @@ pub mod Firsts
 pub mod States
 pub mod Standing
 pub mod Verdicts
+pub mod WholeFile

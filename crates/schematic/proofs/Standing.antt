@@ -7,7 +7,7 @@ use Rattle.nbt.specs.Named.{is_same_name, later_or, last_named}
 use Rattle.schematic.specs.declared.FieldName.TheVariants.{Metadata, RedpilePending}
 use Rattle.schematic.specs.Fields.{text_of, fields_in, ints_in, held, is_third, main, pending_in}
 
-named_stands : (depth : ℕ) (name : List ℕ) (fs : PlainFields) (t : PlainTree) → FieldsCanStand depth fs → last_named name fs ≡ Some t → CanStand depth t
+pub named_stands : (depth : ℕ) (name : List ℕ) (fs : PlainFields) (t : PlainTree) → FieldsCanStand depth fs → last_named name fs ≡ Some t → CanStand depth t
 named_stands depth name no_fields t h e = absurd (cc)
 named_stands depth name (field own one fs) t h e = by_later (last_named name fs) (λ k. named_stands depth name fs t h.2 k) (is_same_name own name) e
   where
@@ -24,7 +24,7 @@ fields_stand depth (Some _) h = (0, tt)
 held_stand : (depth : ℕ) (name : List ℕ) (fs : PlainFields) → FieldsCanStand depth fs → (d : ℕ) × FieldsCanStand d (fields_in (last_named name fs))
 held_stand depth name fs h = fields_stand depth (last_named name fs) (λ t e. named_stands depth name fs t h e)
 
-main_stands : (R : PlainFields) → FieldsCanStand 1 R → (d : ℕ) × FieldsCanStand d (main R)
+pub main_stands : (R : PlainFields) → FieldsCanStand 1 R → (d : ℕ) × FieldsCanStand d (main R)
 unfolding main
 main_stands R h = elim (cases_Bool (is_third R)) [ inl e ↦ rw e (held_stand 1 _ R h) | inr e ↦ rw e (1, h) ]
 

@@ -1,7 +1,7 @@
 //! What holds of the format itself. These calls do nothing: the contract is the law.
 
 ghost use Rattle.std.specs.Prelude.{◌≡◌, true, ℕ, List};
-ghost use Rattle.build.specs.Plan.{Plan};
+ghost use Rattle.build.specs.Plan.{Plan, IsWhole};
 ghost use Rattle.schematic.specs.File.{Refusal, file, is_own, IsFirstRefusal};
 
 /// Bytes mean one build at most.
@@ -19,4 +19,9 @@ pub fn a_refusal_excludes()
 pub fn one_first_cause()
     ensures { (bytes : List ℕ) (one other : Refusal) → is_own one ≡ true
         → IsFirstRefusal bytes one → IsFirstRefusal bytes other → other ≡ one }
+{}
+
+/// A build that bytes mean is whole, so each law over whole builds speaks of it.
+pub fn what_is_read_is_whole()
+    ensures { (bytes : List ℕ) (build : Plan) → file bytes build → IsWhole build }
 {}

@@ -1,0 +1,2 @@
+pub use Rattle.compiler.specs.Compiled
+pub use Rattle.graph_file.specs.GraphFile

@@ -1,0 +1,4 @@
+//! What the graph files of builds show.
+#![tactic(auto)]
+
+pub mod laws;
