@@ -268,6 +268,31 @@ class Graph:
                           separators=(",", ":"))
 
 
+class FileNode:
+    """A node of a graph file, as `Machine` plays it."""
+    priority = Part.priority
+    all_links = Node.all_links
+
+    def __init__(self, number, told):
+        self.number, self.kind, self.value = number, told["kind"], told["state"]
+        self.place, self.also = tuple(told["at"]), [tuple(place) for place in told.get("also", [])]
+        self.is_first, self.is_subtracting = told.get("first", False), told.get("subtract", False)
+        self.ticks = told["delay"] if self.kind in ("repeater", "button") else \
+            2 if self.kind == "lamp" else 1
+        self.direct, self.far = told.get("direct"), told.get("far")
+        self.pending = (told["due"], told["priority"]) if told.get("due") else None
+        self.links = {"back": [], "side": []}
+
+
+def nodes_of_file(path):
+    with open(path, encoding="ascii") as file:
+        told = json.load(file)
+    nodes = {number: FileNode(number, node) for number, node in enumerate(told["nodes"])}
+    for source, target, group, weight in told["links"]:
+        nodes[target].links["side" if group else "back"].append(Link(source, weight))
+    return nodes
+
+
 class Machine(Circuit):
     """The nodes of a graph, under their numbers."""
     def __init__(self, nodes, order, is_settled=True):

@@ -5,6 +5,7 @@ play.py world BUILD SCRIPT
 play.py compile BUILD SCRIPT [--raw] [--keep] [--json]
 play.py run BUILD SCRIPT [--graph] [--keep [--order]]
 play.py check BUILD SCRIPT ORDER
+play.py play GRAPH SCRIPT
 
 The words are those of the program; --raw leaves out all passes. This reads docs/REDSTONE.md and
 docs/BLOCKS.md a second time, and was written without a look at how the program plays and compiles.
@@ -21,7 +22,7 @@ import sys
 
 sys.dont_write_bytecode = True
 
-from graph import Graph, Machine
+from graph import Graph, Machine, nodes_of_file
 from order import Refused, check
 from redstone import ORDERS, Build, read_script
 from world import World
@@ -29,6 +30,9 @@ from world import World
 
 def texts_of(words):
     """The lines that the words ask for, once for each order of due ticks."""
+    if words.command == "play":
+        acts, _ = read_script(words.script)
+        return [list(Machine(nodes_of_file(words.build), order).run(acts)) for order in ORDERS]
     build, (acts, marks) = Build(words.build), read_script(words.script)
     if words.command == "world":
         return [[*World(build, marks, order).play(acts), "end"] for order in ORDERS]
@@ -46,7 +50,7 @@ def texts_of(words):
 
 def words_of(arguments):
     words = argparse.ArgumentParser()
-    words.add_argument("command", choices=("world", "compile", "run", "check"))
+    words.add_argument("command", choices=("world", "compile", "run", "play", "check"))
     words.add_argument("build")
     words.add_argument("script")
     words.add_argument("order_text", nargs="?")
