@@ -3,3 +3,4 @@ pub mod Answering
 pub mod Playing
 pub mod Endings
 pub mod Compiling
+pub mod Saving

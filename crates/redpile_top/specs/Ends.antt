@@ -14,12 +14,12 @@ use Rattle.graph_file.specs.GraphFile.{RefusesBytes}
 use Rattle.world_order.specs.declared.OrderRefusal.{OrderRefusal}
 use Rattle.world_order.specs.declared.OrderRefusal.TheVariants.{At, NoMemory as NoMemoryOfOrder}
 use Rattle.redpile_top.specs.declared.form.Command.{Command}
-use Rattle.redpile_top.specs.declared.form.Command.TheVariants.{World, Compile, Run}
+use Rattle.redpile_top.specs.declared.form.Command.TheVariants.{World, Compile, Run, Save}
 use Rattle.redpile_top.specs.declared.form.Form.{Form}
 use Rattle.redpile_top.specs.declared.form.Form.TheVariants.{OnBuild, Check, Play, Bench}
 use Rattle.redpile_top.specs.Files.{Told, OnTold, IsBuild, IsGraph, Tests, tests_of, graph_tests, IsScript, HasBadOrderLine}
 use Rattle.redpile_top.specs.Forms.{word}
-use Rattle.redpile_top.specs.Written.{WroteGraph, WroteGraphPrefix, WroteRunOf, WroteRunPrefixOf, WroteChecked, WroteCheckedPrefix, WrotePlayed, WrotePlayedPrefix, WroteSummary, WroteSummaryPrefix}
+use Rattle.redpile_top.specs.Written.{WroteGraph, WroteGraphPrefix, WroteRunOf, WroteRunPrefixOf, WroteSaved, WroteSavedPrefix, WroteChecked, WroteCheckedPrefix, WrotePlayed, WrotePlayedPrefix, WroteSummary, WroteSummaryPrefix}
 use Rattle.player.specs.Played.{WroteRun, WroteRunPrefix}
 
 abbrev pub Ending : Type 0
@@ -147,17 +147,19 @@ FaultsOf (Some (Bench units)) told words reading writing fault = UnreadFaults wr
 
 -- ---- what was done
 
--- what a command wrote: `world` a run of the uncompiled world, `compile` a compiled graph, and `run` a run of one
+-- what a command wrote: `world` a run of the uncompiled world, `compile` a compiled graph, `run` a run of one, and `save` a build that takes over its end
 abbrev pub DidCommand : Command → (before now : Option (List ℕ)) → Plan → Meaning → Type 0
 DidCommand World before now build script = WroteRun build script before now
 DidCommand (Compile as_json) before now build script = WroteGraph as_json build script before now
 DidCommand (Run with_graph nodes) before now build script = WroteRunOf nodes with_graph build script before now
+DidCommand (Save third_layout) before now build script = WroteSaved third_layout build script before now
 
 -- and what it began to write
 abbrev pub BeganCommand : Command → (before now : Option (List ℕ)) → Plan → Meaning → Type 0
 BeganCommand World before now build script = WroteRunPrefix build script before now
 BeganCommand (Compile as_json) before now build script = WroteGraphPrefix as_json build script before now
 BeganCommand (Run with_graph nodes) before now build script = WroteRunPrefixOf nodes with_graph build script before now
+BeganCommand (Save third_layout) before now build script = WroteSavedPrefix third_layout build script before now
 
 -- by the form of the words: the whole text was written
 abbrev pub DidForm : Option Form → Told → List (List ℕ) → (before now : Option (List ℕ)) → Type 0

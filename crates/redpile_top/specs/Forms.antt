@@ -3,7 +3,7 @@ use Rattle.std.specs.Prelude.{◌≡◌, ◌⊎◌, ℕ, ◌+◌, Bool, true, fa
 use Rattle.std.specs.Str.{bytes_eq}
 use Rattle.rp_text.specs.Numbers.{u32_of}
 use Rattle.redpile_top.specs.declared.form.Command.{Command}
-use Rattle.redpile_top.specs.declared.form.Command.TheVariants.{World, Compile, Run}
+use Rattle.redpile_top.specs.declared.form.Command.TheVariants.{World, Compile, Run, Save}
 use Rattle.redpile_top.specs.declared.form.Form.{Form}
 use Rattle.redpile_top.specs.declared.form.Form.TheVariants.{OnBuild, Check, Play, Bench}
 use Rattle.redpile_top.specs.declared.form.NodeChoice.{NodeChoice}
@@ -28,6 +28,12 @@ compile_of [] = Some (Compile false)
 compile_of (flag ∷ []) = if bytes_eq flag (codes "--json") then Some (Compile true) else None
 compile_of (flag ∷ other ∷ flags) = None
 
+-- `save`, by its flags
+abbrev pub save_of : List (List ℕ) → Option Command
+save_of [] = Some (Save false)
+save_of (flag ∷ []) = if bytes_eq flag (codes "--v3") then Some (Save true) else None
+save_of (flag ∷ other ∷ flags) = None
+
 -- a command that has no flags
 abbrev pub unflagged : Command → List (List ℕ) → Option Command
 unflagged command [] = Some command
@@ -39,6 +45,7 @@ command_of name flags =
     if bytes_eq name (codes "world") then unflagged World flags
     else if bytes_eq name (codes "compile") then compile_of flags
     else if bytes_eq name (codes "run") then run_of flags
+    else if bytes_eq name (codes "save") then save_of flags
     else None
 
 -- `check`, by the words behind those of the build and the script

@@ -3,8 +3,9 @@ use Rattle.std.specs.Prelude.{◌≡◌, ℕ, Bool, true, false, List, [], ◌++
 use Rattle.std.specs.List.{flat_map}
 use Rattle.circuit.specs.declared.Act.{Act}
 use Rattle.circuit.specs.declared.Pos.{Pos}
+use Rattle.circuit.specs.Circuit.{State}
 use Rattle.circuit.specs.Replay.{Replays, Views}
-use Rattle.circuit.specs.Shows.{steps_of, fires_in}
+use Rattle.circuit.specs.Shows.{Plays, steps_of, fires_in}
 use Rattle.rp_io.specs.Causes.{Wrote, WrotePrefix}
 use Rattle.build.specs.Plan.{Plan}
 use Rattle.build.specs.Outputs.{outputs}
@@ -12,6 +13,8 @@ use Rattle.graph.specs.Graph.{Nodes}
 use Rattle.graph.specs.GraphText.{graph_text}
 use Rattle.graph_machine.specs.Headed.{graph_outputs}
 use Rattle.graph_file.specs.Json.{json_text}
+use Rattle.handover.specs.GivenBack.{given_back}
+use Rattle.power_rules.specs.StandsFor.{StandsFor}
 use Rattle.power_rules.specs.World.{world_circuit, shows}
 use Rattle.report.specs.declared.Counts.{Counts}
 use Rattle.report.specs.BenchText.{bench_text}
@@ -20,6 +23,8 @@ use Rattle.report.specs.FireLine.{fire_line}
 use Rattle.report.specs.Header.{header}
 use Rattle.report.specs.RunLines.{run_lines}
 use Rattle.report.specs.Trailers.{world_trailer, run_trailer}
+use Rattle.schem_write.specs.Written.{written, written3}
+use Rattle.schematic.specs.File.{file}
 use Rattle.script.specs.Acts.{Meaning, ticks_in}
 use Rattle.compiler.specs.declared.Keep.{Keep}
 use Rattle.compiler.specs.declared.Keep.TheVariants.{Prune, All}
@@ -140,6 +145,38 @@ abbrev pub WroteRunPrefixOf : NodeChoice → Bool → Plan → Meaning → (befo
 WroteRunPrefixOf Pruned with_graph build script before now = WroteCompiledRunPrefix with_graph Prune build script before now
 WroteRunPrefixOf Kept with_graph build script before now = WroteCompiledRunPrefix with_graph All build script before now
 WroteRunPrefixOf KeptInOrder with_graph build script before now = WroteOrderedRunPrefix with_graph build script before now
+
+-- ---- `save`: a build that takes over the end of a run
+
+-- One run of a compiled graph that keeps all nodes has these views and counts. The world plays with the same views, each node that fired told by its places, to an end for which the build `after` stands. That build is the first one with what the nodes hold at the end.
+pub record SavesRun (build : Plan) (script : Meaning) (after : Plan) : Type 0 where
+  pub graph : Nodes
+  pub views : List (List ℕ)
+  pub counts : Counts
+  pub compiled : Compiled build script.marks All graph
+  pub run : ShowsCounted graph script.acts views counts
+  pub end : State Pos
+  pub plays : Plays (world_circuit build script.marks) script.acts (map (expand graph) run.shown.order) views end
+  pub stands_for : StandsFor build end after
+  pub given : after ≡ given_back build graph run.shown.last
+
+-- the bytes that are written of a build: of layout 3 where that is asked for, else of layout 2
+abbrev pub saved_bytes : Bool → Plan → List ℕ
+saved_bytes false b = written b
+saved_bytes true b = written3 b
+
+-- The file of such a build was written.
+pub record WroteSaved (third_layout : Bool) (build : Plan) (script : Meaning) (before now : Option (List ℕ)) : Type 0 where
+  pub after : Plan
+  pub saves : SavesRun build script after
+  pub is_file : file (saved_bytes third_layout after) after
+  pub wrote : Wrote before now (saved_bytes third_layout after)
+
+pub record WroteSavedPrefix (third_layout : Bool) (build : Plan) (script : Meaning) (before now : Option (List ℕ)) : Type 0 where
+  pub after : Plan
+  pub saves : SavesRun build script after
+  pub is_file : file (saved_bytes third_layout after) after
+  pub wrote : WrotePrefix before now (saved_bytes third_layout after)
 
 -- ---- `check`: how many ticks and firings the order of a file has, which the build's world plays
 

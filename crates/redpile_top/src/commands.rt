@@ -7,10 +7,11 @@ ghost use Rattle.graph.specs.GraphCircuit.{graph_circuit};
 ghost use Rattle.graph.specs.Sound.{IsSound};
 ghost use Rattle.player.specs.Ending.{EndsWriting};
 ghost use Rattle.report.specs.CheckedText.{checked_text};
+ghost use Rattle.schematic.specs.File.{file};
 ghost use Rattle.script.specs.Clickable.{takes_click, is_wire_at};
 ghost use Rattle.script.specs.Fit.{IsFit};
 ghost use Rattle.redpile_top.specs.Ends.{DidCommand, BeganCommand};
-ghost use Rattle.redpile_top.specs.Written.{keep_of, is_ordered, compile_text, front_of, WroteGraph, WroteGraphPrefix, WroteBehind, WroteBehindPrefix, WroteRunOf, WroteRunPrefixOf, WrotePlayed, WrotePlayedPrefix, WroteSummary, WroteSummaryPrefix, HasSummary};
+ghost use Rattle.redpile_top.specs.Written.{keep_of, is_ordered, compile_text, front_of, WroteGraph, WroteGraphPrefix, WroteBehind, WroteBehindPrefix, WroteRunOf, WroteRunPrefixOf, SavesRun, saved_bytes, WroteSaved, WroteSavedPrefix, WrotePlayed, WrotePlayedPrefix, WroteSummary, WroteSummaryPrefix, HasSummary};
 
 use crate::form::{Command, NodeChoice};
 use build::{Build, outputs};
@@ -19,10 +20,12 @@ use generator::make;
 use graph::Graph;
 use graph_file::to_text;
 use graph_machine::outputs_of;
+use handover::give_back;
 use player::{PlayRefusal, ReadyGraph, Steps, play, play_silently, play_world};
 use report::{LineBuf, push_checked, push_summary};
 use rp_io::{Sink, WriteFault, put_all};
 use rp_text::{NoMemory, push_bytes};
+use schem_write::{write_build, write_build3};
 use script::Script;
 use std::alloc::Global;
 use std::marker::Brand;
@@ -53,6 +56,7 @@ pub fn perform<O: Sink>(
         Command::Run { graph, nodes } => {
             run_compiled::<O, Brand>(alloc, graph, nodes, build, script, out, Blank::new(1))
         }
+        Command::Save { third_layout } => save(alloc, third_layout, build, script, out),
     }
 }
 
@@ -168,6 +172,56 @@ fn put_ready<O: Sink, L: Ledger>(
     put_all(out, front)?;
     ready.put(script, out, steps)?;
     Ok(())
+}
+
+/// The command `save`: the file of a build that takes over the end of a run of the compiled graph.
+fn save<O: Sink>(
+    alloc: Global,
+    third_layout: bool,
+    build: &Build,
+    script: &Script,
+    out: &mut O,
+) -> Result<(), PlayRefusal>
+    requires { IsFit (takes_click build.now) (is_wire_at build.now) script.now }
+    ensures { EndsWriting (λ done. WroteSaved third_layout build.now script.now (O.written out.old) (O.written out.new))
+        (WroteSavedPrefix third_layout build.now script.now (O.written out.old) (O.written out.new)) (out.new ≡ out.old) (O.faults out.old) (O.faults out.new) result }
+{
+    let after = saved::<Brand>(alloc, build, script, Blank::new(1))?;
+    let bytes = saved_bytes(alloc, third_layout, &after)?;
+    put(out, &bytes)
+}
+
+/// The build that takes over the end of a run. All nodes are kept, since what is pruned still plays
+/// in the world.
+fn saved<L: Ledger>(
+    alloc: Global,
+    build: &Build,
+    script: &Script,
+    blank: Blank,
+) -> Result<Build, NoMemory>
+    requires fit { IsFit (takes_click build.now) (is_wire_at build.now) script.now }
+    requires name { blank.name ≡ L.name }
+    requires parts { blank.parts ≡ L.parts }
+    requires some { 0 < L.parts }
+    ensures { IfOk result (λ after. SavesRun build.now script.now after) }
+{
+    let _ = build.cells();
+    let graph = compile_build(alloc, build, script.marks(), Keep::All)?;
+    let mut steps: Steps<L> = Steps::new(blank);
+    let end = play_silently(alloc, &graph, script, &mut steps)?;
+    give_back(alloc, build, &graph, &end.machine)
+}
+
+// The file of a build, in the third layout where that is asked for.
+fn saved_bytes(alloc: Global, third_layout: bool, build: &Build) -> Result<Vec<u8>, NoMemory>
+    ensures bytes { IfOk result (λ bytes. bytes.items ≡ saved_bytes third_layout build.now) }
+    ensures file { IfOk result (λ bytes. file bytes.items build.now) }
+{
+    if third_layout {
+        write_build3(alloc, build)
+    } else {
+        write_build(alloc, build)
+    }
 }
 
 /// Writes what is said of an order that was checked.

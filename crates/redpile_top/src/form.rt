@@ -1,7 +1,7 @@
 //! The forms of the words.
 
 ghost use Rattle.std.specs.Prelude.{◌≡◌, map, string_bytes};
-ghost use Rattle.redpile_top.specs.Forms.{choice_of, run_of, compile_of, unflagged, command_of, check_of, play_of, on_files, units_within, bench_of, form_of, word};
+ghost use Rattle.redpile_top.specs.Forms.{choice_of, run_of, compile_of, save_of, unflagged, command_of, check_of, play_of, on_files, units_within, bench_of, form_of, word};
 
 use rp_text::read_u32;
 
@@ -25,6 +25,8 @@ pub enum Command {
     Compile { as_json: bool },
     /// `run BUILD SCRIPT [--graph] [--keep [--order]]`
     Run { graph: bool, nodes: NodeChoice },
+    /// `save BUILD SCRIPT [--v3]`
+    Save { third_layout: bool },
 }
 
 /// What words ask for.
@@ -94,6 +96,7 @@ fn command_of(name: &str, flags: &[String]) -> Option<Command>
         "world" => unflagged(Command::World, flags),
         "compile" => compile_of(flags),
         "run" => run_of(flags),
+        "save" => save_of(flags),
         _ => None,
     }
 }
@@ -115,6 +118,19 @@ fn compile_of(flags: &[String]) -> Option<Command>
     match flags {
         [] => Some(Command::Compile { as_json: false }),
         [flag] if flag.as_str() == "--json" => Some(Command::Compile { as_json: true }),
+        _ => None,
+    }
+}
+
+// `save`, by its flags.
+fn save_of(flags: &[String]) -> Option<Command>
+    ensures { result ≡ save_of (map string_bytes flags.now) }
+{
+    match flags {
+        [] => Some(Command::Save {
+            third_layout: false,
+        }),
+        [flag] if flag.as_str() == "--v3" => Some(Command::Save { third_layout: true }),
         _ => None,
     }
 }

@@ -13,6 +13,8 @@ mod order_tests;
 mod play_tests;
 #[cfg(test)]
 mod row_tests;
+#[cfg(test)]
+mod save_tests;
 mod status;
 #[cfg(test)]
 mod tests;

@@ -11,7 +11,7 @@ use std::test::Fail;
 
 pub(crate) type Cell = (i32, i32, i32, &'static str);
 
-fn put(rt: &impl Abort, build: &mut Build, cells: &[Cell]) {
+pub(crate) fn put(rt: &impl Abort, build: &mut Build, cells: &[Cell]) {
     for (x, y, z, state) in cells {
         let pos = Pos {
             x: *x,
@@ -70,7 +70,11 @@ fn plays(
 const LEVER: &str = "lever[face=wall,facing=west]";
 
 // A block of this state before a stone before a lamp.
-fn before_lamp(rt: &impl Abort, alloc: Global, state: &'static str) -> Result<Build, Fail> {
+pub(crate) fn before_lamp(
+    rt: &impl Abort,
+    alloc: Global,
+    state: &'static str,
+) -> Result<Build, Fail> {
     let cells = [
         (0, 0, 0, state),
         (1, 0, 0, "stone"),
@@ -233,7 +237,7 @@ fn twins(rt: HostRuntime) -> Result<(), Fail> {
     )
 }
 
-fn wait(rt: &impl Abort, build: &mut Build, pos: Pos, due: u8, priority: u8) {
+pub(crate) fn wait(rt: &impl Abort, build: &mut Build, pos: Pos, due: u8, priority: u8) {
     let added = build.add_pending(Pending { pos, due, priority });
     assert!(rt; added.is_ok());
 }

@@ -382,8 +382,9 @@ fn put_line<E: Sink>(err: &mut E, room: Option<LineBuf>, fault: &Fault) -> Resul
 /// ORDER` reads a text such as `run --keep --order` writes and plays the blocks as it says; it
 /// writes how many ticks and firings there are where all its lines are right, and names the first
 /// that isn't else. `play GRAPH SCRIPT` reads a graph such as `compile --json` writes and a script of
-/// it, plays the graph as it stands, and writes what `run` does. Any other words are Usage. A fault
-/// of `err` changes no status.
+/// it, plays the graph as it stands, and writes what `run` does. `save BUILD SCRIPT [--v3]` plays the
+/// compiled graph with all its nodes and writes the file of a build that takes over the end, in the
+/// third layout with `--v3`. Any other words are Usage. A fault of `err` changes no status.
 pub fn redpile<I: Inputs, O: Sink, E: Sink>(
     alloc: Global,
     words: &[String],
