@@ -1,5 +1,6 @@
 -- What the graph of a file has of the build that it was written of.
-use Rattle.std.proofs.Common.{◌≡◌, ℕ, ◌<◌, List, [], ◌∷◌, sym, ap, ◌∙◌, subst, arith}
+use Rattle.std.proofs.Common.{◌≡◌, ℕ, ◌<◌, List, [], ◌∷◌, Option, Some, None, refl, sym, ap, ap₂, ◌∙◌, subst, arith}
+use Rattle.std.specs.List.{filter_map, cons_option}
 use Rattle.circuit.specs.declared.Act.{Act}
 use Rattle.circuit.specs.declared.Act.TheVariants.{Click as ClickAct, Ticks as TicksAct}
 use Rattle.circuit.specs.declared.Click.{Click}
@@ -9,14 +10,18 @@ use Rattle.circuit.specs.KeySteps.{each_as}
 use Rattle.circuit.specs.Matches.{Matches}
 use Rattle.circuit.specs.Shows.{Shows}
 use Rattle.circuit.specs.Taken.{Takes, EachActTaken}
-use Rattle.build.specs.Outputs.{outputs}
+use Rattle.build.specs.declared.OutPlace.{OutPlace}
+use Rattle.build.specs.Outputs.{outputs, out_place}
 use Rattle.build.specs.Plan.{Plan, IsWhole, IsNear}
-use Rattle.graph.specs.Graph.{Nodes, node_count, link_count}
-use Rattle.graph.specs.GraphCircuit.{graph_circuit}
+use Rattle.graph.specs.declared.Kind.{Kind}
+use Rattle.graph.specs.declared.Kind.TheVariants.{Lever, Button, Plate, Weighted, Torch, Repeater, Comparator, Lamp, Trapdoor, Note, Wire, Constant}
+use Rattle.graph.specs.Graph.{Node, Nodes, node_at, node_count, link_count}
+use Rattle.graph.specs.GraphCircuit.{role_of, role_at, place_at, graph_circuit}
+use Rattle.graph_machine.specs.Headed.{out_kind, node_output, output_at, graph_outputs}
 use Rattle.graph.specs.Sound.{places_of}
 use Rattle.power_rules.specs.World.{world_circuit, shows}
 use Rattle.compiler.specs.declared.Keep.{Keep}
-use Rattle.compiler.specs.CircuitOutputs.{circuit_outputs}
+use Rattle.compiler.specs.CircuitOutputs.{out_of_role, output_under, circuit_outputs}
 use Rattle.compiler.specs.Compiled.{Compiled}
 use Rattle.compiler.proofs.BuildPlaces.{compiled_near}
 use Rattle.compiler.proofs.CompiledLaws.{compiled_sound, compiled_shows, compiled_takes}
@@ -63,10 +68,37 @@ file_shows b whole marks keep g c file h acts views events shown =
     let of_graph = (packed_refines g (compiled_sound b whole marks keep g c)).shows acts views events of_packed in
     compiled_shows b whole marks keep g c acts views of_graph.0 of_graph.1
 
+-- a header names the outputs of a graph as those of its circuit
+same_kind : (kind : Kind) → out_kind kind ≡ out_of_role (role_of kind)
+same_kind Lever = refl
+same_kind (Button delay) = refl
+same_kind Plate = refl
+same_kind Weighted = refl
+same_kind Torch = refl
+same_kind (Repeater delay) = refl
+same_kind (Comparator subtract direct far) = refl
+same_kind Lamp = refl
+same_kind Trapdoor = refl
+same_kind Note = refl
+same_kind Wire = refl
+same_kind Constant = refl
+
+same_output : (entry : Option Node) → node_output entry ≡ out_place (place_at entry) (out_of_role (role_at entry))
+same_output None = refl
+same_output (Some node) = ap (out_place node.pos) (same_kind node.kind)
+
+same_under : (g : Nodes) (keys : List ℕ) → filter_map (output_at g) keys ≡ filter_map (output_under (graph_circuit g)) keys
+same_under g [] = refl
+same_under g (key ∷ keys) = ap₂ (λ (o : Option OutPlace) (rest : List OutPlace). cons_option o rest) (same_output (node_at g key)) (same_under g keys)
+
+graph_headed : (g : Nodes) → graph_outputs g ≡ circuit_outputs (graph_circuit g)
+graph_headed g = same_under g (graph_circuit g).shown
+
 pub file_outputs : (b : Plan) → IsWhole b → (marks : List Pos) (keep : Keep) (g : Nodes) → Compiled b marks keep g → (file : Nodes) → IsGraphFile (json_text g) file →
-    circuit_outputs (graph_circuit file) ≡ outputs b marks
+    graph_outputs file ≡ outputs b marks
 file_outputs b whole marks keep g c file h =
-    ap (λ (n : Nodes). circuit_outputs (graph_circuit n)) (compiled_file b whole marks keep g c file h)
+    graph_headed file
+    ∙ ap (λ (n : Nodes). circuit_outputs (graph_circuit n)) (compiled_file b whole marks keep g c file h)
     ∙ matching_outputs _ _ _ (packed_matches g (compiled_sound b whole marks keep g c))
     ∙ compiled_outputs b whole marks keep g c
 

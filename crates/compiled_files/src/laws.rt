@@ -10,9 +10,9 @@ ghost use Rattle.build.specs.Outputs.{outputs};
 ghost use Rattle.build.specs.Plan.{Plan, IsWhole};
 ghost use Rattle.graph.specs.Graph.{Nodes, link_count};
 ghost use Rattle.graph.specs.GraphCircuit.{graph_circuit};
+ghost use Rattle.graph_machine.specs.Headed.{graph_outputs};
 ghost use Rattle.power_rules.specs.World.{world_circuit, shows};
 ghost use Rattle.compiler.specs.declared.Keep.{Keep};
-ghost use Rattle.compiler.specs.CircuitOutputs.{circuit_outputs};
 ghost use Rattle.compiler.specs.Compiled.{Compiled};
 ghost use Rattle.graph_file.specs.FitsFile.{FitsFile};
 ghost use Rattle.graph_file.specs.GraphFile.{IsGraphFile};
@@ -45,8 +45,9 @@ pub fn a_compiled_file_takes_clicks()
         (acts : List Act) → EachActTaken (world_circuit b marks) acts → EachActTaken (graph_circuit file) acts }
 {}
 
-/// The outputs of the graph of the file are those of the build, in the same order.
+/// The outputs of the graph of the file, by which its runs are headed, are those of the build, in
+/// the same order.
 pub fn a_compiled_file_has_the_outputs_of_its_build()
     ensures { (b : Plan) → IsWhole b → (marks : List Pos) (keep : Keep) (g : Nodes) → Compiled b marks keep g →
-        (file : Nodes) → IsGraphFile (json_text g) file → circuit_outputs (graph_circuit file) ≡ outputs b marks }
+        (file : Nodes) → IsGraphFile (json_text g) file → graph_outputs file ≡ outputs b marks }
 {}

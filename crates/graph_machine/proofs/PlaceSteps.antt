@@ -108,7 +108,7 @@ nodes_apart (entry ∷ g) apart (suc i) (suc j) a b low first second = nodes_apa
 
 -- ---- the outputs in order
 
-each_in_order : (P : Output → Type 0) (entry : Option Output) (others : List Output) → ((one : Output) → entry ≡ Some one → P one) → Each P others → Each P (in_order entry others)
+pub each_in_order : (P : Output → Type 0) (entry : Option Output) (others : List Output) → ((one : Output) → entry ≡ Some one → P one) → Each P others → Each P (in_order entry others)
 each_in_order P None others first rest = rest
 each_in_order P (Some one) [] first rest = (first one refl, tt)
 each_in_order P (Some one) (other ∷ others) first rest = elim (cases_Bool (is_before one.place other.place)) [

@@ -154,7 +154,7 @@ invariant g sound = bounded_is_invariant (graph_circuit g) test_of_keys (graph_i
 
 -- ---- one component changes
 
-readings_stay : (before after : ℕ → ℕ) (key : ℕ) (entry : Option Node) → ((other : ℕ) → other ≢ key → after other ≡ before other) → links_from key entry ≡ 0 → readings_at after entry ≡ readings_at before entry
+pub readings_stay : (before after : ℕ → ℕ) (key : ℕ) (entry : Option Node) → ((other : ℕ) → other ≢ key → after other ≡ before other) → links_from key entry ≡ 0 → readings_at after entry ≡ readings_at before entry
 readings_stay before after key None same none = refl
 readings_stay before after key (Some node) same none =
     let back = ap (back_of node.kind) (reading_stays before after key Back node.links same none) in

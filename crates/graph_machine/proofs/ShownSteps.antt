@@ -1,6 +1,8 @@
 -- What is shown.
-use Rattle.std.proofs.Common.{◌≡◌, ℕ, ◌≤◌, List, map, Option, Some, None, sym, ap, ◌∙◌, subst, arith}
+use Rattle.std.proofs.Common.{◌≡◌, ℕ, ◌<◌, ◌≤◌, All, List, length, get_or, map, Option, Some, None, sym, ap, ◌∙◌, subst, arith}
 use Rattle.std.proofs.Math.Path.{fun_ext}
+use Rattle.std.proofs.lemmas.List.{get_or-map, length-map, ext_get_or}
+use Rattle.cell_queue.proofs.HeldSteps.{same_default}
 use Rattle.circuit.specs.declared.Cell.{Cell}
 use Rattle.circuit.specs.declared.Component.{Component}
 use Rattle.circuit.specs.declared.Component.TheVariants.{Wire as WirePart, Comparator as ComparatorPart, Weighted as WeightedPart}
@@ -15,6 +17,7 @@ use Rattle.cell_queue.specs.Held.{Holding, cell_of}
 use Rattle.graph_machine.specs.Wired.{Wired, given}
 use Rattle.graph_machine.specs.Playing.{held_state, reads_in, IsPlaying}
 use Rattle.graph_machine.specs.Shown.{seen_in}
+use Rattle.graph_machine.specs.Screens.{Screened, AreFaced}
 
 -- ---- what they show
 
@@ -41,3 +44,18 @@ module _ (w : Wired) (h : Holding) (playing : IsPlaying w h) where
 
   pub view_is : (shown : List ℕ) → shown ≡ (graph_circuit w.nodes).shown → map (seen_in w h) shown ≡ view (graph_circuit w.nodes) (held_state h)
   view_is shown keys = ap (λ (f : ℕ → ℕ). map f shown) (fun_ext seen_is) ∙ ap (map (seen (graph_circuit w.nodes) (held_state h))) keys
+
+-- ---- what a screen shows
+
+screen-map : (w : Wired) (h : Holding) (s : Screened) → length s.shown ≡ length s.keys → AreFaced w h.cells s → s.shown ≡ map (seen_in w h) s.keys
+screen-map w h s whole faced = ext_get_or 0 s.shown (map (seen_in w h) s.keys) (whole ∙ sym (length-map s.keys (seen_in w h)))
+    (λ i inside. let below : i < length s.keys = omega (arith, whole) in faced.each i below ∙ sym (get_or-map (seen_in w h) s.keys i 0 0 below))
+
+module _ (w : Wired) (h : Holding) (playing : IsPlaying w h) (s : Screened) (keys : s.keys ≡ (graph_circuit w.nodes).shown) (whole : length s.shown ≡ length s.keys) (faced : AreFaced w h.cells s) where
+  pub screen-view : s.shown ≡ view (graph_circuit w.nodes) (held_state h)
+  screen-view = screen-map w h s whole faced ∙ view_is w h playing s.keys keys
+
+  pub screen_small : All (λ value. value ≤ 15) s.shown
+  screen_small k d inside =
+      let below : k < length s.keys = omega (arith, whole) in
+      subst (λ n. n ≤ 15) (same_default s.shown k 0 d inside) (subst (λ n. n ≤ 15) (sym (faced.each k below)) (seen_le w h playing (get_or s.keys k 0)))

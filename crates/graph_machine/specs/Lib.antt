@@ -6,5 +6,7 @@ pub mod Wired
 pub mod Playing
 pub mod Places
 pub mod Shown
+pub mod Screens
 pub mod Wiring
 pub mod Started
+pub mod Headed

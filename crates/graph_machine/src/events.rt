@@ -11,9 +11,11 @@ ghost use Rattle.cell_queue.specs.Held.{Holding, cell_of, CanFollow, NoneNow};
 ghost use Rattle.graph_machine.specs.Wired.{given, targets_in, AreTargets, IsTarget};
 ghost use Rattle.graph_machine.specs.Outgoing.{reads_of};
 ghost use Rattle.graph_machine.specs.Playing.{attended_in, fired_by, held_state, IsPlaying, AllStill, OthersStill, Attends, MayFire, FiresDue, reads_by, due_count};
+ghost use Rattle.graph_machine.specs.Screens.{AreFaced, Refaced};
 
 use crate::fired::Fired;
 use crate::net::Net;
+use crate::screen::Screen;
 use crate::steps::Steps;
 use cell_queue::Cells;
 use circuit::{Cell, Component};
@@ -68,6 +70,20 @@ fn attend(net: &Net, cells: &mut Cells, key: usize)
     cells.hold(key, cell);
 }
 
+/// One key attends, and its output shows what it must.
+fn attend_shown(net: &Net, cells: &mut Cells, screen: &mut Screen, key: usize)
+    requires inside { key < length net.now.outs }
+    requires whole { length cells.old.cells ≡ length net.now.outs }
+    requires early { cells.old.time < 2 ^ 63 }
+    requires sound { IsSound net.now.nodes }
+    requires screen { screen.old.count ≡ length net.now.outs }
+    ensures held { cells.new ≡ record { time = cells.old.time; cells = slice_set cells.old.cells key (attended_in net.now cells.old.time key (cell_of cells.old.cells key)) } }
+    ensures refaced { Refaced net.now cells.old.cells cells.new.cells screen.old screen.new (λ k. k ≡ key) }
+{
+    attend(net, cells, key);
+    screen.refresh(net, cells, key);
+}
+
 /// All keys attend.
 pub fn attend_all(net: &Net, cells: &mut Cells)
     requires whole { length cells.old.cells ≡ length net.now.outs }
@@ -81,10 +97,11 @@ pub fn attend_all(net: &Net, cells: &mut Cells)
     }
 }
 
-/// The targets of a key attend.
+/// The targets of a key attend, and their outputs show what they must.
 fn attend_targets<L: Ledger>(
     net: &Net,
     cells: &mut Cells,
+    screen: &mut Screen,
     key: usize,
     count: usize,
     steps: &mut Steps<L>,
@@ -93,28 +110,33 @@ fn attend_targets<L: Ledger>(
     requires whole { length cells.old.cells ≡ length net.now.outs }
     requires early { cells.old.time < 2 ^ 63 }
     requires sound { IsSound net.now.nodes }
+    requires screen { screen.old.count ≡ length net.now.outs }
     ensures time { cells.new.time ≡ cells.old.time }
     ensures all { Attends net.now cells.old.time (IsTarget (targets_in net.now.targets key)) cells.old.cells cells.new.cells }
+    ensures refaced { Refaced net.now cells.old.cells cells.new.cells screen.old screen.new (IsTarget (targets_in net.now.targets key)) }
     ensures read { steps.new ≡ steps.old + count }
 {
     for index in 0..count {
         let target = net.target(key, index, steps);
-        attend(net, cells, target);
+        attend_shown(net, cells, screen, target);
     }
 }
 
 /// A component holds another cell, and then all attend. No other ones have to than the component
 /// and its targets, since the others read what they read before. Where the component gives what it
-/// gave, no link is read.
+/// gave, no link is read. The outputs show what they must.
 fn change<L: Ledger>(
     net: &mut Net,
     cells: &mut Cells,
+    screen: &mut Screen,
     key: usize,
     component: Component,
     cell: Cell,
     steps: &mut Steps<L>,
 )
     requires playing { IsPlaying net.old cells.old }
+    requires screen { screen.old.count ≡ length net.old.outs }
+    requires faced { AreFaced net.old cells.old.cells screen.old }
     requires still { OthersStill key net.old cells.old }
     requires early { cells.old.time < 2 ^ 63 }
     requires there { role_at (node_at net.old.nodes key) ≡ Some component }
@@ -123,30 +145,36 @@ fn change<L: Ledger>(
     ensures nodes { net.new.nodes ≡ net.old.nodes }
     ensures state { held_state cells.new ≡ attend (graph_circuit net.old.nodes) (put (graph_circuit net.old.nodes) (held_state cells.old) key cell) }
     ensures playing { IsPlaying net.new cells.new }
+    ensures screen { screen.new.count ≡ length net.new.outs }
+    ensures faced { AreFaced net.new cells.new.cells screen.new }
+    ensures keys { screen.new.keys ≡ screen.old.keys }
     ensures still { AllStill net.new cells.new }
     ensures read { steps.new ≤ steps.old + reads_of net.old.nodes key }
 {
     cells.hold(key, cell);
     let out = circuit::out(component, cell.value);
     if net.out(key) == out {
-        attend(net, cells, key);
+        attend_shown(net, cells, screen, key);
         return;
     }
     let count = net.change(key, out, steps);
-    attend(net, cells, key);
-    attend_targets(net, cells, key, count, steps);
+    attend_shown(net, cells, screen, key);
+    attend_targets(net, cells, screen, key, count, steps);
 }
 
 /// A component takes the value of a click.
 pub fn set_value<L: Ledger>(
     net: &mut Net,
     cells: &mut Cells,
+    screen: &mut Screen,
     key: usize,
     component: Component,
     value: u8,
     steps: &mut Steps<L>,
 )
     requires playing { IsPlaying net.old cells.old }
+    requires screen { screen.old.count ≡ length net.old.outs }
+    requires faced { AreFaced net.old cells.old.cells screen.old }
     requires still { AllStill net.old cells.old }
     requires early { cells.old.time < 2 ^ 63 }
     requires there { role_at (node_at net.old.nodes key) ≡ Some component }
@@ -154,6 +182,9 @@ pub fn set_value<L: Ledger>(
     ensures nodes { net.new.nodes ≡ net.old.nodes }
     ensures state { held_state cells.new ≡ attend (graph_circuit net.old.nodes) (put (graph_circuit net.old.nodes) (held_state cells.old) key (with_value (cell_of cells.old.cells key) value)) }
     ensures playing { IsPlaying net.new cells.new }
+    ensures screen { screen.new.count ≡ length net.new.outs }
+    ensures faced { AreFaced net.new cells.new.cells screen.new }
+    ensures keys { screen.new.keys ≡ screen.old.keys }
     ensures still { AllStill net.new cells.new }
     ensures read { steps.new ≤ steps.old + reads_of net.old.nodes key }
 {
@@ -161,17 +192,27 @@ pub fn set_value<L: Ledger>(
         value,
         ..cells.cell(key)
     };
-    change(net, cells, key, component, cell, steps);
+    change(net, cells, screen, key, component, cell, steps);
 }
 
 /// The key that fires next, if something is due, fires.
-pub fn fire_next<L: Ledger>(net: &mut Net, cells: &mut Cells, steps: &mut Steps<L>) -> Option<usize>
+pub fn fire_next<L: Ledger>(
+    net: &mut Net,
+    cells: &mut Cells,
+    screen: &mut Screen,
+    steps: &mut Steps<L>,
+) -> Option<usize>
     requires playing { IsPlaying net.old cells.old }
+    requires screen { screen.old.count ≡ length net.old.outs }
+    requires faced { AreFaced net.old cells.old.cells screen.old }
     requires still { AllStill net.old cells.old }
     requires early { cells.old.time < 2 ^ 63 }
     ensures nodes { net.new.nodes ≡ net.old.nodes }
     ensures state { MayFire net.old.nodes (held_state cells.old) (held_state cells.new) result }
     ensures playing { IsPlaying net.new cells.new }
+    ensures screen { screen.new.count ≡ length net.new.outs }
+    ensures faced { AreFaced net.new cells.new.cells screen.new }
+    ensures keys { screen.new.keys ≡ screen.old.keys }
     ensures still { AllStill net.new cells.new }
     ensures few { IfSome result (λ key. key < 2 ^ 32) }
     ensures read { steps.new ≤ steps.old + reads_by net.old.nodes result }
@@ -179,7 +220,7 @@ pub fn fire_next<L: Ledger>(net: &mut Net, cells: &mut Cells, steps: &mut Steps<
     let key = cells.take_due()?;
     if let Some(component) = net.role(key) {
         let cell = fired(net, cells.now(), key, cells.cell(key));
-        change(net, cells, key, component, cell, steps);
+        change(net, cells, screen, key, component, cell, steps);
     }
     Some(key)
 }
@@ -188,10 +229,13 @@ pub fn fire_next<L: Ledger>(net: &mut Net, cells: &mut Cells, steps: &mut Steps<
 pub fn fire_due<L: Ledger>(
     net: &mut Net,
     cells: &mut Cells,
+    screen: &mut Screen,
     fired: &mut Fired,
     steps: &mut Steps<L>,
 )
     requires playing { IsPlaying net.old cells.old }
+    requires screen { screen.old.count ≡ length net.old.outs }
+    requires faced { AreFaced net.old cells.old.cells screen.old }
     requires still { AllStill net.old cells.old }
     requires early { cells.old.time < 2 ^ 63 }
     requires late { 0 < cells.old.time }
@@ -202,9 +246,12 @@ pub fn fire_due<L: Ledger>(
     ensures room { fired.new.room ≡ fired.old.room }
     ensures none { NoneNow cells.new }
     ensures playing { IsPlaying net.new cells.new }
+    ensures screen { screen.new.count ≡ length net.new.outs }
+    ensures faced { AreFaced net.new cells.new.cells screen.new }
+    ensures keys { screen.new.keys ≡ screen.old.keys }
     ensures still { AllStill net.new cells.new }
 {
-    while let Some(key) = fire_next(net, cells, steps) {
+    while let Some(key) = fire_next(net, cells, screen, steps) {
         fired.push(NodeKey::new(key as u32));
     }
 }
@@ -213,10 +260,13 @@ pub fn fire_due<L: Ledger>(
 pub fn tick<L: Ledger>(
     net: &mut Net,
     cells: &mut Cells,
+    screen: &mut Screen,
     fired: &mut Fired,
     steps: &mut Steps<L>,
 ) -> u64
     requires playing { IsPlaying net.old cells.old }
+    requires screen { screen.old.count ≡ length net.old.outs }
+    requires faced { AreFaced net.old cells.old.cells screen.old }
     requires still { AllStill net.old cells.old }
     requires early { cells.old.time < 2 ^ 62 }
     requires none { NoneNow cells.old }
@@ -229,11 +279,14 @@ pub fn tick<L: Ledger>(
     ensures time { cells.new.time ≡ cells.old.time + 1 }
     ensures none { NoneNow cells.new }
     ensures playing { IsPlaying net.new cells.new }
+    ensures screen { screen.new.count ≡ length net.new.outs }
+    ensures faced { AreFaced net.new cells.new.cells screen.new }
+    ensures keys { screen.new.keys ≡ screen.old.keys }
     ensures still { AllStill net.new cells.new }
 {
     let _ = net.len();
     let before = fired.keys().len();
     cells.advance();
-    fire_due(net, cells, fired, steps);
+    fire_due(net, cells, screen, fired, steps);
     (fired.keys().len() - before) as u64
 }

@@ -13,8 +13,9 @@ ghost use Rattle.graph_machine.specs.Shown.{node_state};
 use crate::events::{attend_all, set_value, tick};
 use crate::fired::Fired;
 use crate::net::Net;
-use crate::outputs::{node_state, view_into};
+use crate::outputs::node_state;
 use crate::places::{Keys, clicked_by, find_taker, shown_by};
+use crate::screen::Screen;
 use crate::steps::Steps;
 use crate::wiring::{begin_cells, count_keys};
 use build::ClickRefusal;
@@ -31,8 +32,7 @@ use std::sync::ledger::Ledger;
 pub struct Machine {
     net: Net,
     cells: Cells,
-    // The keys of the outputs, in order.
-    shown: Vec<u32>,
+    screen: Screen,
     // The keys that take clicks.
     clicked: Keys,
     // The keys that fired in the last tick.
@@ -48,7 +48,7 @@ impl Model for Machine {
 
     ghost view = { λ m. record { nodes = m.net.nodes; time = m.cells.time; cells = m.cells.cells; events = m.events } };
 
-    ghost invariant = { λ m. IsStarted m.net m.cells m.shown.items m.clicked m.fired.room };
+    ghost invariant = { λ m. IsStarted m.net m.cells m.screen m.clicked m.fired.room };
 }
 
 impl Machine {
@@ -66,11 +66,12 @@ impl Machine {
         let cells = begin_cells(alloc, graph, net.len())?;
         let mut cells = Cells::new(alloc, cells)?;
         attend_all(&net, &mut cells);
+        let screen = Screen::new(alloc, &net, &cells, shown)?;
         let fired = Fired::new(alloc, graph.node_count() as usize)?;
         Ok(Machine {
             net,
             cells,
-            shown,
+            screen,
             clicked,
             fired,
             events: 0,
@@ -98,7 +99,15 @@ impl Machine {
         };
         let component = self.net.role(key).unwrap();
         let value = circuit::clicked(component, click, self.cells.cell(key).value).unwrap();
-        set_value(&mut self.net, &mut self.cells, key, component, value, steps);
+        set_value(
+            &mut self.net,
+            &mut self.cells,
+            &mut self.screen,
+            key,
+            component,
+            value,
+            steps,
+        );
         self.events += 1;
         Ok(())
     }
@@ -114,7 +123,13 @@ impl Machine {
         ensures ticked { (keys : List ℕ) × TakesTick self.old.nodes keys (state_in self.old) (state_in self.new) self.old.events self.new.events steps.old steps.new }
     {
         self.fired.clear();
-        let count = tick(&mut self.net, &mut self.cells, &mut self.fired, steps);
+        let count = tick(
+            &mut self.net,
+            &mut self.cells,
+            &mut self.screen,
+            &mut self.fired,
+            steps,
+        );
         self.events += count;
     }
 
@@ -129,7 +144,13 @@ impl Machine {
         ensures ticked { (keys : List ℕ) × TakesTick self.old.nodes keys (state_in self.old) (state_in self.new) self.old.events self.new.events steps.old steps.new × fired.new.keys ≡ fired.old.keys ++ keys }
         ensures room { fired.new.room ≡ fired.old.room }
     {
-        let count = tick(&mut self.net, &mut self.cells, fired, steps);
+        let count = tick(
+            &mut self.net,
+            &mut self.cells,
+            &mut self.screen,
+            fired,
+            steps,
+        );
         self.events += count;
     }
 
@@ -151,7 +172,7 @@ impl Machine {
     pub fn output_count(&self) -> usize
         ensures { result ≡ length (graph_circuit self.now.nodes).shown }
     {
-        self.shown.len()
+        self.screen.len()
     }
 
     /// What the outputs show, in the order of their places.
@@ -160,7 +181,7 @@ impl Machine {
         ensures values { into.new ≡ view (graph_circuit self.now.nodes) (state_in self.now) }
         ensures small { All (λ value. value ≤ 15) into.new }
     {
-        view_into(&self.net, &self.cells, &self.shown, into);
+        into.copy_from_slice(self.screen.shown());
     }
 
     /// The state of the node under the key, if the graph that was started has one there.

@@ -1,8 +1,8 @@
 -- Which node gives its state to a place.
-use Rattle.std.proofs.Common.{◌≡◌, ℕ, ◌+◌, Bool, true, false, List, [], ◌∷◌, Option, Some, None, refl, sym, ap, ◌∙◌, subst, arith, inl, inr}
-use Rattle.std.specs.Prelude.{◌&&◌, ◌||◌, find}
+use Rattle.std.proofs.Common.{◌≡◌, ℕ, ◌+◌, Bool, true, List, [], ◌∷◌, Option, Some, None, refl, sym, ap, ◌∙◌, subst, arith, inl, inr}
+use Rattle.std.specs.Prelude.{find}
 use Rattle.std.specs.List.{list_any}
-use Rattle.std.proofs.lemmas.Bool.{cases_Bool, cases_eq, and_parts, and_from, false≢true}
+use Rattle.std.proofs.lemmas.Bool.{cases_Bool, and_parts, and_from, false≢true}
 use Rattle.circuit.specs.declared.Pos.{Pos}
 use Rattle.circuit.specs.Circuit.{Among}
 use Rattle.build.specs.Place.{same_place}
@@ -62,7 +62,7 @@ any_among (q ∷ ps) p h = elim (cases_Bool (same_place q p)) [
 
 -- ---- nodes
 
-state_moves : (kind : Kind) → has_state kind ≡ true → kind ≡ Constant → ⊥
+pub state_moves : (kind : Kind) → has_state kind ≡ true → kind ≡ Constant → ⊥
 state_moves kind h e = false≢true (sym (ap has_state e) ∙ h)
 
 -- a node with a state that stands for the place
@@ -81,7 +81,7 @@ kept_by g p key h = by_entry (node_at g key) refl h
         let both = and_parts (has_state node.kind) (list_any (λ (own : Pos). same_place own p) (node.pos ∷ node.also)) k in
         record { node = node; there = e; state = both.0; stands = any_among (places_at (Some node)) p both.1 }
 
-pub is_place_of : (g : Nodes) (p : Pos) (key : ℕ) → KeptBy g p key → IsPlaceOf g key p
+abbrev pub is_place_of : (g : Nodes) (p : Pos) (key : ℕ) → KeptBy g p key → IsPlaceOf g key p
 is_place_of g p key k = record { node = k.node; there = k.there; moves = state_moves k.node.kind k.state; stands = k.stands }
 
 keeps_of : (g : Nodes) (p : Pos) (key : ℕ) → KeptBy g p key → keeps p (node_at g key) ≡ true

@@ -1,5 +1,5 @@
 -- The keys are noted one by one from the last one down, so the first that keeps a place comes last.
-use Rattle.std.proofs.Common.{◌≡◌, ℕ, ◌<◌, ◌≤◌, Bool, true, false, cond, List, [], ◌∷◌, ◌++◌, append_assoc, length, drop, Option, Some, None, refl, sym, ap, ◌∙◌, subst, arith, inl, inr}
+use Rattle.std.proofs.Common.{◌≡◌, ℕ, ◌<◌, Bool, true, false, cond, List, [], ◌∷◌, ◌++◌, append_assoc, length, drop, Option, Some, None, refl, sym, ap, ◌∙◌, subst, arith, inl, inr}
 use Rattle.std.specs.Prelude.{find, option_map, replicate}
 use Rattle.std.proofs.lemmas.Bool.{cases_lt}
 use Rattle.std.proofs.lemmas.List.{length-replicate, get_or-replicate, get_or_past}
@@ -19,6 +19,9 @@ AreNoted b g s keys held = (cell : ℕ) → cell < volume b → in_cell held cel
 abbrev pub popped : Nodes → List ℕ → List ℕ
 popped g keys = drop (length keys) (keys_of g)
 
+abbrev pub nothing_held : Option Held
+nothing_held = None
+
 drop_front : (xs ys : List ℕ) → drop (length xs) (xs ++ ys) ≡ ys
 drop_front [] ys = refl
 drop_front (x ∷ xs) ys = drop_front xs ys
@@ -36,18 +39,18 @@ append_none (x ∷ xs) = ap (λ rest. x ∷ rest) (append_none xs)
 pub none_popped : (g : Nodes) (keys : List ℕ) → keys ≡ keys_of g → keys ++ popped g keys ≡ keys_of g
 none_popped g keys e = subst (λ (k : List ℕ). k ++ popped g k ≡ keys_of g) (sym e) (ap (λ rest. keys_of g ++ rest) (drop_all (keys_of g)) ∙ append_none (keys_of g))
 
-empty_at : (n cell : ℕ) → in_cell (replicate n None) cell ≡ None
+empty_at : (n cell : ℕ) → in_cell (replicate n nothing_held) cell ≡ None
 empty_at n cell = elim (cases_lt cell n) [
-  | inl low ↦ get_or-replicate n cell None None low
-  | inr past ↦ get_or_past (replicate n None) cell None (omega (arith, past, length-replicate n (None {A = Held})))
+  | inl low ↦ get_or-replicate n cell nothing_held None low
+  | inr past ↦ get_or_past (replicate n nothing_held) cell None (omega (arith, past, length-replicate n nothing_held))
 ]
 
-pub none_noted : (b : Plan) (g : Nodes) (s : State ℕ) (keys : List ℕ) (held : List (Option Held)) (n : ℕ) → keys ≡ keys_of g → held ≡ replicate n None → AreNoted b g s (popped g keys) held
+pub none_noted : (b : Plan) (g : Nodes) (s : State ℕ) (keys : List ℕ) (held : List (Option Held)) (n : ℕ) → keys ≡ keys_of g → held ≡ replicate n nothing_held → AreNoted b g s (popped g keys) held
 none_noted b g s keys held n e is cell low =
     ap (λ (xs : List (Option Held)). in_cell xs cell) is ∙ empty_at n cell
     ∙ sym (ap (λ (rest : List ℕ). option_map (held_under s) (find (λ key. keeps (place_of b cell) (node_at g key)) rest)) (ap (popped g) e ∙ drop_all (keys_of g)))
 
-pub none_timely : (held : List (Option Held)) (n : ℕ) → held ≡ replicate n None → AreTimely held
+pub none_timely : (held : List (Option Held)) (n : ℕ) → held ≡ replicate n nothing_held → AreTimely held
 none_timely held n is cell = subst IsTimely (sym (ap (λ (xs : List (Option Held)). in_cell xs cell) is ∙ empty_at n cell)) tt
 
 -- ---- one key more

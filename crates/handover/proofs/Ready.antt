@@ -1,5 +1,5 @@
 -- What is held by the cells can be stored there, and its ticks may wait there.
-use Rattle.std.proofs.Common.{◌≡◌, ◌≢◌, ℕ, ◌-◌, ◌<◌, ◌≤◌, Bool, true, false, not, cond, List, length, Option, Some, None, refl, sym, ap, ◌∙◌, subst, arith, inl, inr}
+use Rattle.std.proofs.Common.{◌≡◌, ℕ, ◌-◌, ◌≤◌, Bool, true, false, not, cond, List, Option, Some, None, refl, sym, ap, ◌∙◌, subst, arith, inl, inr}
 use Rattle.std.specs.Prelude.{◌==◌, ◌&&◌, nat_lt, nat_le, option_map}
 use Rattle.std.proofs.lemmas.Bool.{cases_lt, and_from, lt-ltb, le-leb, eqb-false, false≢true}
 use Rattle.std.proofs.lemmas.List.{get_or_past}
@@ -9,23 +9,22 @@ use Rattle.circuit.specs.declared.Component.{Component}
 use Rattle.circuit.specs.declared.Component.TheVariants.{Weighted, Comparator, Wire}
 use Rattle.circuit.specs.declared.Pos.{Pos}
 use Rattle.circuit.specs.Bounds.{BoundedAt}
-use Rattle.circuit.specs.Circuit.{State}
+use Rattle.circuit.specs.Circuit.{Circuit, State}
 use Rattle.circuit.specs.Component.{top}
 use Rattle.build.specs.declared.Pending.{Pending}
 use Rattle.build.specs.Plan.{Plan, volume, block_at, place_of, is_ticking, is_timely, may_wait}
-use Rattle.cell_queue.specs.Held.{wait_of}
-use Rattle.cell_queue.specs.declared.cells.Wait.{Wait}
 use Rattle.graph.specs.declared.Kind.{Kind}
 use Rattle.graph.specs.declared.Kind.TheVariants.{Wire as WireNode, Constant}
-use Rattle.graph.specs.Graph.{Nodes, node_at}
-use Rattle.graph.specs.GraphCircuit.{role_of as node_role_of, role_at as node_role_at}
+use Rattle.graph.specs.Graph.{Node, Nodes, node_at}
+use Rattle.graph.specs.GraphCircuit.{role_of as node_role_of, role_at as node_role_at, graph_circuit}
 use Rattle.graph.specs.Sound.{IsSound, can_wait}
+use Rattle.compiler.specs.PlaceOrder.{HasComponent}
 use Rattle.compiler.specs.MayWait.{MayWait}
 use Rattle.compiler.proofs.Waits.{ticks_at, kind_ticks, block_ticks}
 use Rattle.handover.specs.declared.held.Held.{Held}
 use Rattle.handover.specs.Ended.{HasItsBlocks, IsPlayed}
 use Rattle.handover.specs.GivenBack.{has_state, keeper, held_under, held_at, given_block, waiting_for, given_tick}
-use Rattle.handover.specs.HeldByCell.{in_cell, IsSoon, IsTimely, AreTimely, AreHeld, IsSmall, AreSmall, tick_by, with_levels_by, AreTicking}
+use Rattle.handover.specs.HeldByCell.{in_cell, IsSoon, IsTimely, AreTimely, AreHeld, IsSmall, AreSmall, with_levels_by, AreTicking}
 use Rattle.handover.proofs.Keepers.{KeptBy, keeper_so, is_place_of}
 use Rattle.handover.proofs.Parts.{block_by-there}
 use Rattle.handover.proofs.Saved.{played_bounded, played_waits}
@@ -42,6 +41,19 @@ no_constant : (kind : Kind) → has_state kind ≡ true → node_role_of kind �
 no_constant Constant h e = false≢true h
 no_constant WireNode h e = false≢true h
 no_constant _ h e = cc
+
+has_part : (kind : Kind) → has_state kind ≡ true → (component : Component) × (node_role_of kind ≡ Some component)
+has_part kind h = by_role (node_role_of kind) refl
+  where
+    by_role : (role : Option Component) → node_role_of kind ≡ role → (component : Component) × (node_role_of kind ≡ Some component)
+    by_role None e = absurd (no_constant kind h e)
+    by_role (Some component) e = (component, e)
+
+-- a node with a state is a component where the same circuit is played
+pub playing_part : (g m : Nodes) (key : ℕ) → graph_circuit m ≡ graph_circuit g → (node : Node) → node_at g key ≡ Some node → has_state node.kind ≡ true → HasComponent (graph_circuit m) key
+playing_part g m key same node there state =
+    let part = has_part node.kind state in
+    record { component = part.0; there = ap (λ (C : Circuit ℕ). C.role key) same ∙ ap node_role_at there ∙ part.1 }
 
 small_value : (g : Nodes) → IsSound g → (s : State ℕ) → IsPlayed g s → (p : Pos) (key : ℕ) → KeptBy g p key → (s.cells key).value ≤ 15
 small_value g sound s played p key k = by_role (node_role_of k.node.kind) refl (subst (λ role. BoundedAt role (s.cells key)) (ap node_role_at k.there) ((played_bounded g sound s played).each key))

@@ -35,7 +35,7 @@ use Rattle.graph.proofs.ListedSteps.{test_of_keys}
 use Rattle.compiler.specs.declared.Keep.TheVariants.{All}
 use Rattle.compiler.specs.Compiled.{Compiled}
 use Rattle.compiler.specs.MayWait.{MayWait}
-use Rattle.compiler.specs.PlaceOrder.{IsPlaceOf, PlacesHold}
+use Rattle.compiler.specs.PlaceOrder.{IsPlaceOf}
 use Rattle.compiler.specs.SavedGraph.{IsSaved}
 use Rattle.compiler.proofs.BuildPlaces.{compiled_blocks}
 use Rattle.compiler.proofs.CompiledLaws.{compiled_sound}
@@ -44,8 +44,8 @@ use Rattle.compiler.proofs.SavedLaws.{role-marked, stored-marked}
 use Rattle.compiler.proofs.Waits.{stored_waits, graph_waits}
 use Rattle.handover.specs.declared.held.Held.{Held}
 use Rattle.handover.specs.Ended.{IsPlayed}
-use Rattle.handover.specs.GivenBack.{has_state, keeper, held_under, held_at, with_value, given_block, given_output, given_level, waiting_for, given_tick, given_back}
-use Rattle.handover.proofs.Keepers.{KeptBy, keeper_is, keeper_none}
+use Rattle.handover.specs.GivenBack.{has_state, held_under, held_at, given_block, given_level, waiting_for, given_tick, given_back}
+use Rattle.handover.proofs.Keepers.{keeper_is, keeper_none}
 
 -- ---- one block
 

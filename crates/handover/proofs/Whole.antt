@@ -1,7 +1,6 @@
 -- The parts that were given are the whole.
-use Rattle.std.proofs.Common.{◌≡◌, ℕ, zero, suc, ◌+◌, ◌<◌, List, [], ◌∷◌, map, Option, Some, None, refl, sym, ap, ap₂, ◌∙◌, arith}
+use Rattle.std.proofs.Common.{◌≡◌, ℕ, zero, suc, ◌+◌, ◌<◌, List, [], ◌∷◌, map, Option, Some, None, refl, ap, ap₂, ◌∙◌, arith}
 use Rattle.std.specs.List.{range_with_len, filter_map}
-use Rattle.block_table.specs.declared.Block.{Block}
 use Rattle.circuit.specs.declared.Pos.{Pos}
 use Rattle.circuit.specs.Circuit.{State}
 use Rattle.build.specs.declared.Pending.{Pending}
@@ -9,7 +8,7 @@ use Rattle.build.specs.Plan.{Plan, volume, entry, block_at, place_of, places}
 use Rattle.graph.specs.Graph.{Nodes}
 use Rattle.handover.specs.declared.held.Held.{Held}
 use Rattle.handover.specs.GivenBack.{held_at, given_block, given_level, given_tick, given_back}
-use Rattle.handover.specs.HeldByCell.{in_cell, AreHeld, block_by, level_by, tick_by, ticks_to, with_ticks_by}
+use Rattle.handover.specs.HeldByCell.{AreHeld, block_by, level_by, tick_by, ticks_to, with_ticks_by}
 
 -- what is made of each cell is made of each place
 map-places : {X : Type 0} (f : Pos → X) (g : ℕ → X) (b : Plan) (a n : ℕ) → ((k : ℕ) → k < a + n → g k ≡ f (place_of b k)) → map g (range_with_len a n) ≡ map f (map (place_of b) (range_with_len a n))

@@ -1,5 +1,5 @@
 -- A build to which the end of a run of a graph is handed back.
-use Rattle.std.specs.Prelude.{◌≡◌, ℕ, Bool, true, false, ◌&&◌, nat_lt, map, find, List, [], ◌∷◌, Option, Some, None, option_map}
+use Rattle.std.specs.Prelude.{ℕ, Bool, true, false, ◌&&◌, nat_lt, map, find, ◌∷◌, Option, Some, None, option_map}
 use Rattle.std.specs.List.{list_any, filter_map}
 use Rattle.block_table.specs.declared.Block.{Block}
 use Rattle.block_table.specs.declared.Block.TheVariants.{Air, Inert, Slab, Wire as WireBlock, Torch as TorchBlock, WallTorch, Repeater as RepeaterBlock, Comparator as ComparatorBlock, Lever as LeverBlock, Button as ButtonBlock, Plate as PlateBlock, RedstoneBlock, Lamp as LampBlock, Trapdoor as TrapdoorBlock, Container, Composter, Cauldron, Cake, Weighted as WeightedBlock, Note as NoteBlock}
@@ -30,12 +30,6 @@ has_state Trapdoor = true
 has_state Note = true
 has_state Wire = false
 has_state Constant = false
-
--- a node with a state to give back
-pub record IsStateful (entry : Option Node) : Type 0 where
-  pub node : Node
-  pub there : entry ≡ Some node
-  pub state : has_state node.kind ≡ true
 
 -- whether the node gives its state to the place: it has one, and stands for the place
 abbrev pub keeps : Pos → Option Node → Bool

@@ -1,5 +1,5 @@
 -- What is held in each cell, and the build as its parts are given.
-use Rattle.std.specs.Prelude.{◌≡◌, ℕ, ◌<◌, ◌≤◌, Bool, true, false, nat_lt, cond, map, List, [], Option, Some, None, IfSome, length, slice_index_or, if◌then◌else◌}
+use Rattle.std.specs.Prelude.{◌≡◌, ℕ, ◌<◌, ◌≤◌, Bool, true, false, nat_lt, cond, map, List, Option, Some, None, IfSome, length, slice_index_or, if◌then◌else◌}
 use Rattle.std.specs.List.{range_with_len, filter_map}
 use Rattle.block_table.specs.declared.Block.{Block}
 use Rattle.circuit.specs.declared.Pos.{Pos}

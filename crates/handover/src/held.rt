@@ -3,8 +3,10 @@
 ghost use Rattle.std.specs.Prelude.{◌≡◌, Some, IfOk, length};
 ghost use Rattle.build.specs.Plan.{volume};
 ghost use Rattle.graph.specs.Graph.{node_at};
+ghost use Rattle.graph.specs.GraphCircuit.{graph_circuit};
 ghost use Rattle.graph_machine.specs.Playing.{state_in};
-ghost use Rattle.handover.specs.GivenBack.{keeps, held_under, IsStateful};
+ghost use Rattle.compiler.specs.PlaceOrder.{HasComponent};
+ghost use Rattle.handover.specs.GivenBack.{keeps, held_under};
 ghost use Rattle.handover.specs.HeldByCell.{Notes, IsTimely, AreTimely, AreHeld};
 
 use crate::notes::{has_state, note_node};
@@ -28,7 +30,7 @@ pub fn held_by_cell(
     graph: &Graph,
     machine: &Machine,
 ) -> Result<Vec<Option<Held>>, NoMemory>
-    requires { machine.now.nodes ≡ graph.now.nodes }
+    requires { graph_circuit machine.now.nodes ≡ graph_circuit graph.now.nodes }
     ensures held { IfOk result (λ held. AreHeld build.now graph.now.nodes (state_in machine.now) held.items) }
     ensures timely { IfOk result (λ held. AreTimely held.items) }
 {
@@ -48,7 +50,7 @@ fn note_key(
     key: NodeKey,
     held: &mut [Option<Held>],
 )
-    requires started { machine.now.nodes ≡ graph.now.nodes }
+    requires started { graph_circuit machine.now.nodes ≡ graph_circuit graph.now.nodes }
     requires whole { length held.old ≡ volume build.now }
     requires timely { AreTimely held.old }
     ensures notes { Notes build.now (λ pos. keeps pos (node_at graph.now.nodes key)) (held_under (state_in machine.now) key) held.old held.new }
@@ -62,9 +64,9 @@ fn note_key(
     }
 }
 
-// What the node under the key holds, which has a state.
+// What the node under the key holds, which is a component.
 fn held_by(machine: &Machine, key: NodeKey) -> Held
-    requires { IsStateful (node_at machine.now.nodes key) }
+    requires { HasComponent (graph_circuit machine.now.nodes) key }
     ensures value { result ≡ held_under (state_in machine.now) key }
     ensures timely { IsTimely (Some result) }
 {

@@ -2,6 +2,7 @@
 #![tactic(auto)]
 
 ghost use Rattle.std.specs.Prelude.{◌≡◌, IfOk};
+ghost use Rattle.graph.specs.GraphCircuit.{graph_circuit};
 ghost use Rattle.graph.specs.Sound.{IsSound};
 ghost use Rattle.graph_machine.specs.Playing.{state_in};
 ghost use Rattle.handover.specs.GivenBack.{given_back};
@@ -32,7 +33,7 @@ pub fn give_back(
 ) -> Result<Build, NoMemory>
     requires sound { IsSound graph.now.nodes }
     requires blocks { HasItsBlocks build.now graph.now.nodes }
-    requires started { machine.now.nodes ≡ graph.now.nodes }
+    requires started { graph_circuit machine.now.nodes ≡ graph_circuit graph.now.nodes }
     requires played { IsPlayed graph.now.nodes (state_in machine.now) }
     ensures { IfOk result (λ after. after ≡ given_back build.now graph.now.nodes (state_in machine.now)) }
 {

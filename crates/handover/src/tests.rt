@@ -16,8 +16,9 @@ fn block(rt: &impl Abort, state: &str) -> Block {
 }
 
 fn put(rt: &impl Abort, build: &mut Build, pos: Pos, state: &str) {
+    let block = parse_state(state.as_bytes()).expect(rt, "a block of the table");
     assert!(rt; build.contains(pos));
-    build.set(pos, block(rt, state));
+    build.set(pos, block);
 }
 
 // What is saved before the first step, where all components have attended once.

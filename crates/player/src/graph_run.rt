@@ -247,6 +247,7 @@ pub fn play_silently<L: Ledger>(
     requires sound { IsSound graph.now.nodes }
     requires taken { EachActTaken (graph_circuit graph.now.nodes) script.now.acts }
     ensures ran { IfOk result (λ end. RanGraph graph.now.nodes script.now.acts end.counts end.values.items (state_in end.machine) steps.old steps.new) }
+    ensures circuit { IfOk result (λ end. graph_circuit end.machine.nodes ≡ graph_circuit graph.now.nodes) }
     ensures nothing { OnErr result (steps.new ≡ steps.old) }
 {
     let Started {
@@ -271,7 +272,8 @@ fn play_graph<L: Ledger>(
 ) -> Counts
     requires started { HasStarted play.old.machine.nodes play.old.machine play.old.counts shown.old }
     requires taken { EachActTaken (graph_circuit play.old.machine.nodes) script.now.acts }
-    ensures { RanGraph play.old.machine.nodes script.now.acts result shown.new (state_in play.new.machine) steps.old steps.new }
+    ensures ran { RanGraph play.old.machine.nodes script.now.acts result shown.new (state_in play.new.machine) steps.old steps.new }
+    ensures circuit { graph_circuit play.new.machine.nodes ≡ graph_circuit play.old.machine.nodes }
 {
     let counts = play.counts;
     play_on(script, play, shown, steps);

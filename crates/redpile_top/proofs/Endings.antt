@@ -11,18 +11,18 @@ use Rattle.script.specs.declared.ScriptRefusal.TheVariants.{Line, NoMemory as No
 use Rattle.script.specs.Acts.{Meaning}
 use Rattle.report.specs.declared.Fault.{Fault}
 use Rattle.report.specs.declared.Fault.TheVariants.{Usage as UsageFault, Read, Write, Build as BuildFault, BuildTooLong, Script as ScriptFault, ScriptTooLong, Memory, Order, OrderTooLong, Graph, GraphTooLong}
-use Rattle.report.specs.declared.GraphRefusal.{GraphRefusal}
-use Rattle.report.specs.declared.GraphRefusal.TheVariants.{Json, Whole, Node as NodeRefusal, Link as LinkRefusal, NoMemory as NoMemoryOfGraph}
 use Rattle.rp_io.specs.Causes.{Rose, HasCause, Wrote, WrotePrefix}
 use Rattle.redpile_top.specs.declared.form.Command.{Command}
 use Rattle.redpile_top.specs.declared.form.Form.{Form}
-use Rattle.redpile_top.specs.declared.form.Form.TheVariants.{OnBuild, Check, Bench}
+use Rattle.redpile_top.specs.declared.form.Form.TheVariants.{OnBuild, Check, Play, Bench}
 use Rattle.redpile_top.specs.declared.status.Status.{Status}
 use Rattle.redpile_top.specs.declared.status.Status.TheVariants.{Done, Usage, ReadFault, WriteFault, BadBuild, BadBlock, BadScript, BadOrder, NoMemory, BadGraph}
 use Rattle.redpile_top.specs.Forms.{word}
-use Rattle.redpile_top.specs.Files.{Told, OnTold, IsBuild, is_block, IsBadBuild, IsBadBlock, Tests, tests_of, IsScript, IsBadScript, IsOrderFile, IsBadOrder}
-use Rattle.redpile_top.specs.Ends.{Ran, Accepted, BuildFaults, CheckFaults, UnreadFaults, FaultsOf, IsBuildOf, BuildCause, ScriptCause, BeganForm, OnWriteFault, ButForWrites}
-use Rattle.redpile_top.specs.Clauses.{IsBadScriptFor, IsBadOrderFor, Exactly, BuildClause, BlockClause, ScriptClause, OrderClause, FrontClause, CompleteClause, status_of, status_of_cause, status_of_script, status_of_graph}
+use Rattle.redpile_top.specs.Files.{Told, OnTold, IsBuild, is_block, IsBadBuild, IsBadBlock, tests_of, IsScript, IsBadScript, IsOrderFile, IsBadOrder}
+use Rattle.redpile_top.specs.Ends.{Ran, Accepted, BuildFaults, CheckFaults, UnreadFaults, IsBuildOf, BuildCause, ScriptCause, BeganForm, OnWriteFault, ButForWrites}
+use Rattle.redpile_top.specs.Clauses.{IsBadScriptFor, IsBadOrderFor, Exactly, BuildClause, BlockClause, ScriptClause, OrderClause, GraphClause, FrontClause, CompleteClause, status_of, status_of_cause, status_of_script, status_of_graph}
+use Rattle.redpile_top.proofs.Answering.{never, by_read, by_memory, here, not_bad_script, cause_other, script_other, graph_other}
+use Rattle.redpile_top.proofs.Playing.{Began as BeganPlay, graph_accepted, script_accepted as script_accepted_on, graph_over, script_over as script_over_graph, complete_over as complete_over_graph, play_alone}
 
 -- ---- what excludes what
 
@@ -58,12 +58,6 @@ no_block bytes r other first bad =
     let clash : false ≡ true = sym other ∙ ap is_block same in
     cc
 
-not_bad_script : (bytes : List ℕ) (tests : Tests) (script : Meaning) → IsScript tests script bytes → IsBadScript tests bytes → ⊥
-not_bad_script bytes tests script good bad = elim bad [
-  | inl long ↦ absurd (let within : length bytes ≤ 1048576 = good.within in omega arith)
-  | inr line ↦ (let clash : ◌≡◌ {A = Result Meaning ScriptRefusal} (Ok script) (Err (Line line.line line.kind)) = sym good.is ∙ line.is in absurd (cc))
-]
-
 -- for an accepted build and script no build makes the script bad
 not_bad_script_for : (build_bytes bytes : List ℕ) (build : Plan) (script : Meaning) → IsBuild build build_bytes → IsScript (tests_of build) script bytes → IsBadScriptFor build_bytes bytes → ⊥
 not_bad_script_for build_bytes bytes build script is_build is_script bad =
@@ -74,21 +68,7 @@ not_bad_script_for build_bytes bytes build script is_build is_script bad =
 refused_script : (build_bytes bytes : List ℕ) (r : Refusal) → IsFirstRefusal build_bytes r → IsBadScriptFor build_bytes bytes → ⊥
 refused_script build_bytes bytes r first bad = not_both build_bytes bad.0 r (bad.1).0.is first
 
--- ---- statuses
-
--- it doesn't come, and needn't
-never : (P : Type 0) (answer status : Status) → (status ≡ answer → ⊥) → (P → ⊥) → Exactly P answer status
-never P answer status h k = record { only = λ e. absurd (h e); must = λ p. absurd (k p) }
-
-by_read : (P : Type 0) (answer : Status) → (ReadFault ≡ answer → ⊥) → Exactly P answer ReadFault
-by_read P answer h = record { only = λ e. absurd (h e); must = λ p. inr (inl refl) }
-
-by_memory : (P : Type 0) (answer : Status) → (NoMemory ≡ answer → ⊥) → Exactly P answer NoMemory
-by_memory P answer h = record { only = λ e. absurd (h e); must = λ p. inr (inr refl) }
-
--- it comes
-here : (P : Type 0) (answer : Status) → P → Exactly P answer answer
-here P answer p = record { only = λ e. p; must = λ q. inl refl }
+-- ---- by the build's first cause
 
 module _ (b : Option (List ℕ)) where
   build_by : (told : Option Refusal) → BuildCause b told → (bytes : List ℕ) → b ≡ Some bytes → Exactly (IsBadBuild bytes) BadBuild (status_of_cause told)
@@ -232,27 +212,38 @@ module _ (told : Told) (words : List (List ℕ)) (reading writing untouched : Ty
   pub build_done : (form : Option Form) → Ran form told words reading writing untouched before now (Ok tt) → BuildClause form told words Done
   build_done None ran = λ e. cc
   build_done (Some (Bench units)) ran = λ e. cc
+  build_done (Some Play) ran = λ e. cc
   build_done (Some Check) ran = build_accepted (told (word words 1)) (told (word words 2)) ran.done.target ran.done.script ran.done.accepted Done (λ e. cc)
   build_done (Some (OnBuild command)) ran = build_accepted (told (word words 1)) (told (word words 2)) ran.done.target ran.done.script ran.done.accepted Done (λ e. cc)
 
   pub block_done : (form : Option Form) → Ran form told words reading writing untouched before now (Ok tt) → BlockClause form told words Done
   block_done None ran = λ e. cc
   block_done (Some (Bench units)) ran = λ e. cc
+  block_done (Some Play) ran = λ e. cc
   block_done (Some Check) ran = block_accepted (told (word words 1)) (told (word words 2)) ran.done.target ran.done.script ran.done.accepted Done (λ e. cc)
   block_done (Some (OnBuild command)) ran = block_accepted (told (word words 1)) (told (word words 2)) ran.done.target ran.done.script ran.done.accepted Done (λ e. cc)
 
   pub script_done : (form : Option Form) → Ran form told words reading writing untouched before now (Ok tt) → ScriptClause form told words Done
   script_done None ran = λ e. cc
   script_done (Some (Bench units)) ran = λ e. cc
+  script_done (Some Play) ran = script_accepted_on (told (word words 1)) (told (word words 2)) ran.done.target ran.done.script ran.done.accepted Done (λ e. cc)
   script_done (Some Check) ran = script_accepted (told (word words 1)) (told (word words 2)) ran.done.target ran.done.script ran.done.accepted Done (λ e. cc)
   script_done (Some (OnBuild command)) ran = script_accepted (told (word words 1)) (told (word words 2)) ran.done.target ran.done.script ran.done.accepted Done (λ e. cc)
 
   pub order_done : (form : Option Form) → Ran form told words reading writing untouched before now (Ok tt) → OrderClause form told words Done
   order_done None ran = λ e. cc
   order_done (Some (Bench units)) ran = λ e. cc
+  order_done (Some Play) ran = λ e. cc
   order_done (Some Check) ran = λ build_bytes is_b script_bytes is_s bytes is_o. never (IsBadOrderFor build_bytes script_bytes bytes) BadOrder Done (λ e. cc)
       (not_bad_order_for build_bytes script_bytes bytes ran.done.target ran.done.script ran.done.wrote.order (ran.done.accepted.good build_bytes is_b) (ran.done.accepted.script_is script_bytes is_s) (ran.done.wrote.is_order bytes is_o))
   order_done (Some (OnBuild command)) ran = λ e. cc
+
+  pub graph_done : (form : Option Form) → Ran form told words reading writing untouched before now (Ok tt) → GraphClause form told words Done
+  graph_done None ran = λ e. cc
+  graph_done (Some (Bench units)) ran = λ e. cc
+  graph_done (Some Play) ran = graph_accepted (told (word words 1)) (told (word words 2)) ran.done.target ran.done.script ran.done.accepted Done (λ e. cc)
+  graph_done (Some Check) ran = λ e. cc
+  graph_done (Some (OnBuild command)) ran = λ e. cc
 
   -- words without a form are Usage
   usage_alone : (fault : Fault) (answer : Status) → (Usage ≡ answer → ⊥) → fault ≡ UsageFault → status_of fault ≡ answer → ⊥
@@ -281,9 +272,14 @@ module _ (told : Told) (words : List (List ℕ)) (reading writing untouched : Ty
   began_check Write ran = (ran.front.target, ran.front.script, ran.front.accepted)
   began_check _ ran = tt
 
+  began_play : (fault : Fault) → RanTo (Some Play) fault → BeganPlay (told (word words 1)) (told (word words 2)) reading writing fault
+  began_play Write ran = (ran.front.target, ran.front.script, ran.front.accepted)
+  began_play _ ran = tt
+
   pub build_failed : (fault : Fault) (form : Option Form) → RanTo form fault → BuildClause form told words (status_of fault)
   build_failed fault None ran = usage_alone fault BadBuild (λ e. cc) ran.caused
   build_failed fault (Some (Bench units)) ran = unread_alone fault BadBuild (λ e. cc) (λ e. cc) ran.caused
+  build_failed fault (Some Play) ran = play_alone (told (word words 1)) (told (word words 2)) reading writing BadBuild (λ e. cc) (λ e. cc) (λ e. cc) (λ e. cc) (λ e. cc) fault ran.caused
   build_failed fault (Some Check) ran = elim (check_cause (told (word words 1)) (told (word words 2)) reading writing (told (word words 3)) fault ran.caused) [
     | inl cause ↦ build_over (told (word words 1)) (told (word words 2)) reading writing fault cause (began_check fault ran)
     | inr bad ↦ build_accepted (told (word words 1)) (told (word words 2)) bad.1.0 bad.1.1 bad.1.2 (status_of fault) (λ e. let clash : BadOrder ≡ BadBuild = sym bad.0 ∙ e in cc)
@@ -293,6 +289,7 @@ module _ (told : Told) (words : List (List ℕ)) (reading writing untouched : Ty
   pub block_failed : (fault : Fault) (form : Option Form) → RanTo form fault → BlockClause form told words (status_of fault)
   block_failed fault None ran = usage_alone fault BadBlock (λ e. cc) ran.caused
   block_failed fault (Some (Bench units)) ran = unread_alone fault BadBlock (λ e. cc) (λ e. cc) ran.caused
+  block_failed fault (Some Play) ran = play_alone (told (word words 1)) (told (word words 2)) reading writing BadBlock (λ e. cc) (λ e. cc) (λ e. cc) (λ e. cc) (λ e. cc) fault ran.caused
   block_failed fault (Some Check) ran = elim (check_cause (told (word words 1)) (told (word words 2)) reading writing (told (word words 3)) fault ran.caused) [
     | inl cause ↦ block_over (told (word words 1)) (told (word words 2)) reading writing fault cause (began_check fault ran)
     | inr bad ↦ block_accepted (told (word words 1)) (told (word words 2)) bad.1.0 bad.1.1 bad.1.2 (status_of fault) (λ e. let clash : BadOrder ≡ BadBlock = sym bad.0 ∙ e in cc)
@@ -302,6 +299,7 @@ module _ (told : Told) (words : List (List ℕ)) (reading writing untouched : Ty
   pub script_failed : (fault : Fault) (form : Option Form) → RanTo form fault → ScriptClause form told words (status_of fault)
   script_failed fault None ran = usage_alone fault BadScript (λ e. cc) ran.caused
   script_failed fault (Some (Bench units)) ran = unread_alone fault BadScript (λ e. cc) (λ e. cc) ran.caused
+  script_failed fault (Some Play) ran = script_over_graph (told (word words 1)) (told (word words 2)) reading writing fault ran.caused (began_play fault ran)
   script_failed fault (Some Check) ran = elim (check_cause (told (word words 1)) (told (word words 2)) reading writing (told (word words 3)) fault ran.caused) [
     | inl cause ↦ script_over (told (word words 1)) (told (word words 2)) reading writing fault cause (began_check fault ran)
     | inr bad ↦ script_accepted (told (word words 1)) (told (word words 2)) bad.1.0 bad.1.1 bad.1.2 (status_of fault) (λ e. let clash : BadOrder ≡ BadScript = sym bad.0 ∙ e in cc)
@@ -311,6 +309,7 @@ module _ (told : Told) (words : List (List ℕ)) (reading writing untouched : Ty
   pub complete_failed : (fault : Fault) (form : Option Form) → RanTo form fault → CompleteClause form told words (status_of fault)
   complete_failed fault None ran = tt
   complete_failed fault (Some (Bench units)) ran = unread_complete fault ran.caused
+  complete_failed fault (Some Play) ran = complete_over_graph (told (word words 1)) (told (word words 2)) reading writing fault ran.caused
   complete_failed fault (Some Check) ran = λ build script order build_bytes script_bytes bytes is_b is_s is_o good fit is.
       elim (check_cause (told (word words 1)) (told (word words 2)) reading writing (told (word words 3)) fault ran.caused) [
         | inl cause ↦ complete_over (told (word words 1)) (told (word words 2)) reading writing fault cause build script build_bytes script_bytes is_b is_s good fit
@@ -318,26 +317,6 @@ module _ (told : Told) (words : List (List ℕ)) (reading writing untouched : Ty
             (record { build = bad.1.0; script = bad.1.1; is_build = bad.1.2.good build_bytes is_b; is_script = bad.1.2.script_is script_bytes is_s; bad = bad.1.3 bytes is_o }))
       ]
   complete_failed fault (Some (OnBuild command)) ran = complete_over (told (word words 1)) (told (word words 2)) reading writing fault ran.caused
-
--- ---- statuses that no refusal of a file stands for
-
-cause_other : (answer : Status) → (NoMemory ≡ answer → ⊥) → (BadBlock ≡ answer → ⊥) → (BadBuild ≡ answer → ⊥) → (told : Option Refusal) → status_of_cause told ≡ answer → ⊥
-cause_other answer memory block build None e = memory e
-cause_other answer memory block build (Some r) e = elim (cases_Bool (is_block r)) [
-  | inl h ↦ (let same : BadBlock ≡ answer = rw h at e in block same)
-  | inr h ↦ (let same : BadBuild ≡ answer = rw h at e in build same)
-]
-
-script_other : (answer : Status) → (NoMemory ≡ answer → ⊥) → (BadScript ≡ answer → ⊥) → (refusal : ScriptRefusal) → status_of_script refusal ≡ answer → ⊥
-script_other answer memory script (Line line kind) e = script e
-script_other answer memory script NoMemoryOfScript e = memory e
-
-graph_other : (answer : Status) → (NoMemory ≡ answer → ⊥) → (BadGraph ≡ answer → ⊥) → (refusal : GraphRefusal) → status_of_graph refusal ≡ answer → ⊥
-graph_other answer memory graph Json e = graph e
-graph_other answer memory graph Whole e = graph e
-graph_other answer memory graph (NodeRefusal index kind) e = graph e
-graph_other answer memory graph (LinkRefusal index kind) e = graph e
-graph_other answer memory graph NoMemoryOfGraph e = memory e
 
 pub never_done : (fault : Fault) → status_of fault ≡ Done → ⊥
 never_done (BuildFault refusal) e = cause_other Done (λ s. cc) (λ s. cc) (λ s. cc) (plain_refusal refusal) e
@@ -358,6 +337,8 @@ untouched_then : (fault : Fault) (P : Type 0) → (status_of fault ≡ WriteFaul
 untouched_then Write P h n = absurd (h refl)
 untouched_then _ P h n = n
 
+-- ---- answers that no fault over a build and a script gives
+
 module _ (told : Told) (words : List (List ℕ)) (reading writing : Type 0) where
   graph_alone : (b s : Option (List ℕ)) (fault : Fault) → BuildFaults b s reading writing fault → status_of fault ≡ BadGraph → ⊥
   graph_alone b s (BuildFault refusal) cause = cause_other BadGraph (λ s. cc) (λ s. cc) (λ s. cc) (plain_refusal refusal)
@@ -373,15 +354,6 @@ module _ (told : Told) (words : List (List ℕ)) (reading writing : Type 0) wher
   order_alone b s OrderTooLong cause = absurd cause
   order_alone b s (Graph refusal) cause = absurd cause
   order_alone b s _ cause = λ e. cc
-
-  pub graph_failed : (fault : Fault) (form : Option Form) → FaultsOf form told words reading writing fault → status_of fault ≡ BadGraph → ⊥
-  graph_failed fault None cause = usage_alone told words reading writing (Unit {0}) None None fault BadGraph (λ e. cc) cause
-  graph_failed fault (Some (Bench units)) cause = unread_alone told words reading writing (Unit {0}) None None fault BadGraph (λ e. cc) (λ e. cc) cause
-  graph_failed fault (Some Check) cause = elim (check_cause (told (word words 1)) (told (word words 2)) reading writing (told (word words 3)) fault cause) [
-    | inl before ↦ graph_alone (told (word words 1)) (told (word words 2)) fault before
-    | inr bad ↦ (λ e. let clash : BadOrder ≡ BadGraph = sym bad.0 ∙ e in cc)
-  ]
-  graph_failed fault (Some (OnBuild command)) cause = graph_alone (told (word words 1)) (told (word words 2)) fault cause
 
 -- the line was written, or a prefix of it
 pub line_written : {T E : Type 0} (r : Result T E) (old new : ℕ) (before now : Option (List ℕ)) (line : List ℕ) → OnOk r (Wrote before now line) → OnErr r (WrotePrefix before now line) → HasCause old new r →
@@ -426,6 +398,7 @@ module _ (told : Told) (words : List (List ℕ)) (reading writing untouched : Ty
   pub order_failed : (fault : Fault) (form : Option Form) → Ran form told words reading writing untouched before now (Err fault) → OrderClause form told words (status_of fault)
   order_failed fault None ran = usage_alone told words reading writing untouched before now fault BadOrder (λ e. cc) ran.caused
   order_failed fault (Some (Bench units)) ran = unread_alone told words reading writing untouched before now fault BadOrder (λ e. cc) (λ e. cc) ran.caused
+  order_failed fault (Some Play) ran = play_alone (told (word words 1)) (told (word words 2)) reading writing BadOrder (λ e. cc) (λ e. cc) (λ e. cc) (λ e. cc) (λ e. cc) fault ran.caused
   order_failed fault (Some Check) ran = elim (check_cause (told (word words 1)) (told (word words 2)) reading writing (told (word words 3)) fault ran.caused) [
     | inl cause ↦ (λ build_bytes is_b script_bytes is_s bytes is_o. order_over fault cause ran build_bytes script_bytes bytes is_b is_s is_o)
     | inr bad ↦ (λ build_bytes is_b script_bytes is_s bytes is_o. record {
@@ -434,3 +407,13 @@ module _ (told : Told) (words : List (List ℕ)) (reading writing untouched : Ty
     })
   ]
   order_failed fault (Some (OnBuild command)) ran = order_alone told words reading writing (told (word words 1)) (told (word words 2)) fault ran.caused
+
+  pub graph_failed : (fault : Fault) (form : Option Form) → Ran form told words reading writing untouched before now (Err fault) → GraphClause form told words (status_of fault)
+  graph_failed fault None ran = usage_alone told words reading writing untouched before now fault BadGraph (λ e. cc) ran.caused
+  graph_failed fault (Some (Bench units)) ran = unread_alone told words reading writing untouched before now fault BadGraph (λ e. cc) (λ e. cc) ran.caused
+  graph_failed fault (Some Play) ran = graph_over (told (word words 1)) (told (word words 2)) reading writing fault ran.caused (began_play told words reading writing untouched before now fault ran)
+  graph_failed fault (Some Check) ran = elim (check_cause (told (word words 1)) (told (word words 2)) reading writing (told (word words 3)) fault ran.caused) [
+    | inl before ↦ graph_alone told words reading writing (told (word words 1)) (told (word words 2)) fault before
+    | inr bad ↦ (λ e. let clash : BadOrder ≡ BadGraph = sym bad.0 ∙ e in cc)
+  ]
+  graph_failed fault (Some (OnBuild command)) ran = graph_alone told words reading writing (told (word words 1)) (told (word words 2)) fault ran.caused

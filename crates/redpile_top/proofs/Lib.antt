@@ -1,3 +1,5 @@
 pub mod Tellings
+pub mod Answering
+pub mod Playing
 pub mod Endings
 pub mod Compiling

@@ -5,32 +5,37 @@ use Rattle.build.specs.Plan.{Plan}
 use Rattle.schematic.specs.File.{Refusal, file, IsFirstRefusal, Refuses as RefusesBuild}
 use Rattle.script.specs.declared.ScriptRefusal.{ScriptRefusal}
 use Rattle.script.specs.declared.ScriptRefusal.TheVariants.{Line, NoMemory as NoMemoryOfScript}
-use Rattle.script.specs.Clickable.{takes_click, is_wire_at}
 use Rattle.script.specs.Acts.{Meaning}
 use Rattle.script.specs.Scripts.{script_of, Refuses}
 use Rattle.report.specs.declared.Fault.{Fault}
+use Rattle.report.specs.declared.GraphRefusal.{GraphRefusal}
 use Rattle.report.specs.declared.OrderKind.{OrderKind}
+use Rattle.graph.specs.Graph.{Nodes}
+use Rattle.graph_file.specs.GraphFile.{IsGraphFile, RefusesBytes}
 use Rattle.world_order.specs.BadLine.{IsBadLine}
 use Rattle.world_order.specs.OrderText.{IsOrder}
 use Rattle.world_order.specs.declared.OrderRefusal.{OrderRefusal}
 use Rattle.world_order.specs.declared.OrderRefusal.TheVariants.{At, NoMemory as NoMemoryOfOrder}
-use Rattle.redpile_top.specs.Files.{IsBuild, OnTold, tests_of}
-use Rattle.redpile_top.specs.Ends.{Accepted, BuildCause, ScriptCause, CheckFaults, Ends, ButForWrites, OnWriteFault, IsBuildOf, fault_of_order}
+use Rattle.redpile_top.specs.Files.{IsBuild, IsGraph, OnTold, Tests, tests_of}
+use Rattle.redpile_top.specs.Ends.{Accepted, BuildCause, GraphCause, ScriptCause, CheckFaults, Ends, ButForWrites, OnWriteFault, IsBuildOf, fault_of_order}
 
 pub build_told : (b : Option (List ℕ)) (read : List ℕ) (told : Option Refusal) → ((bytes : List ℕ) → b ≡ Some bytes → read ≡ bytes) → ((bytes : List ℕ) → b ≡ Some bytes → length bytes ≤ 67108864) →
     RefusesBuild read told → BuildCause b told
 build_told b read None same within h = tt
 build_told b read (Some r) same within h = λ bytes is. (within bytes is, subst (λ (bs : List ℕ). IsFirstRefusal bs r) (same bytes is) h)
 
-pub script_told : (b s : Option (List ℕ)) (build : Plan) (read : List ℕ) (refusal : ScriptRefusal) → IsBuildOf b build → ((bytes : List ℕ) → s ≡ Some bytes → read ≡ bytes) →
-    ((bytes : List ℕ) → s ≡ Some bytes → length bytes ≤ 1048576) → Refuses (script_of (takes_click build) (is_wire_at build) read) refusal → ScriptCause (IsBuildOf b) tests_of s refusal
-script_told b s build read (Line line kind) good same within h =
+pub script_told : {T : Type 0} (IsGood : T → Type 0) (tests : T → Tests) (s : Option (List ℕ)) (target : T) (read : List ℕ) (refusal : ScriptRefusal) → IsGood target → ((bytes : List ℕ) → s ≡ Some bytes → read ≡ bytes) →
+    ((bytes : List ℕ) → s ≡ Some bytes → length bytes ≤ 1048576) → Refuses (script_of (tests target).takes (tests target).wire read) refusal → ScriptCause IsGood tests s refusal
+script_told IsGood tests s target read (Line line kind) good same within h =
     record {
-      target = build;
+      target = target;
       good = good;
-      holds = λ bytes is. (within bytes is, subst (λ (bs : List ℕ). script_of (takes_click build) (is_wire_at build) bs ≡ Err (Line line kind)) (same bytes is) h);
+      holds = λ bytes is. (within bytes is, subst (λ (bs : List ℕ). script_of (tests target).takes (tests target).wire bs ≡ Err (Line line kind)) (same bytes is) h);
     }
-script_told b s build read NoMemoryOfScript good same within h = tt
+script_told IsGood tests s target read NoMemoryOfScript good same within h = tt
+
+pub graph_told : (g : Option (List ℕ)) (read : List ℕ) (refusal : GraphRefusal) → ((bytes : List ℕ) → g ≡ Some bytes → read ≡ bytes) → ((bytes : List ℕ) → g ≡ Some bytes → length bytes ≤ 268435456) → RefusesBytes read refusal → GraphCause g refusal
+graph_told g read refusal same within h = λ bytes is. (within bytes is, subst (λ (bs : List ℕ). RefusesBytes bs refusal) (same bytes is) h)
 
 same_file : (name : List ℕ) (now old : List ℕ → Option (List ℕ)) (bytes : List ℕ) → now ≡ old → old name ≡ Some bytes → now name ≡ Some bytes
 same_file name now old bytes e h = ap (λ (f : List ℕ → Option (List ℕ)). f name) e ∙ h
@@ -50,6 +55,13 @@ good_build b read build same within is = λ bytes told.
     record {
       within = subst (λ (bs : List ℕ). length bs ≤ 67108864) (same bytes told) within;
       is = subst (λ (bs : List ℕ). file bs build) (same bytes told) is;
+    }
+
+pub good_graph : (g : Option (List ℕ)) (read : List ℕ) (graph : Nodes) → ((bytes : List ℕ) → g ≡ Some bytes → read ≡ bytes) → length read ≤ 268435456 → IsGraphFile read graph → OnTold g (IsGraph graph)
+good_graph g read graph same within is = λ bytes told.
+    record {
+      within = subst (λ (bs : List ℕ). length bs ≤ 268435456) (same bytes told) within;
+      is = subst (λ (bs : List ℕ). IsGraphFile bs graph) (same bytes told) is;
     }
 
 abbrev refused : {T : Type 0} → OrderRefusal → Result T OrderRefusal

@@ -3,6 +3,7 @@ use Rattle.std.specs.Prelude.{◌≡◌, ◌⊎◌, ℕ, if◌then◌else◌, Li
 use Rattle.rp_io.specs.Causes.{Wrote, WrotePrefix}
 use Rattle.circuit.specs.declared.Pos.{Pos}
 use Rattle.build.specs.Plan.{Plan}
+use Rattle.graph.specs.Graph.{Nodes}
 use Rattle.schematic.specs.File.{Refusal, plain_refusal}
 use Rattle.script.specs.declared.ScriptRefusal.{ScriptRefusal}
 use Rattle.script.specs.declared.ScriptRefusal.TheVariants.{Line, NoMemory as NoMemoryOfScript}
@@ -13,11 +14,11 @@ use Rattle.report.specs.declared.GraphRefusal.{GraphRefusal}
 use Rattle.report.specs.declared.GraphRefusal.TheVariants.{Json, Whole, Node as NodeRefusal, Link as LinkRefusal, NoMemory as NoMemoryOfGraph}
 use Rattle.report.specs.FaultLine.{fault_line}
 use Rattle.redpile_top.specs.declared.form.Form.{Form}
-use Rattle.redpile_top.specs.declared.form.Form.TheVariants.{OnBuild, Check, Bench}
+use Rattle.redpile_top.specs.declared.form.Form.TheVariants.{OnBuild, Check, Play, Bench}
 use Rattle.redpile_top.specs.declared.status.Status.{Status}
 use Rattle.redpile_top.specs.declared.status.Status.TheVariants.{Done, Usage, ReadFault, WriteFault, BadBuild, BadBlock, BadScript, BadOrder, NoMemory, BadGraph}
 use Rattle.redpile_top.specs.Ends.{Ending, DidForm, BeganForm}
-use Rattle.redpile_top.specs.Files.{Told, OnTold, IsBuild, is_block, IsBadBuild, IsBadBlock, tests_of, IsScript, IsBadScript, IsOrderFile, IsBadOrder}
+use Rattle.redpile_top.specs.Files.{Told, OnTold, IsBuild, is_block, IsBadBuild, IsBadBlock, IsGraph, IsBadGraph, tests_of, graph_tests, IsScript, IsBadScript, IsOrderFile, IsBadOrder}
 use Rattle.redpile_top.specs.Forms.{IsFileWord, word}
 
 -- ---- statuses and lines
@@ -71,6 +72,7 @@ pub record Exactly (P : Type 0) (answer status : Status) : Type 0 where
 abbrev pub BuildClause : Option Form → Told → List (List ℕ) → Status → Type 0
 BuildClause None told words status = status ≡ BadBuild → ⊥
 BuildClause (Some (Bench units)) told words status = status ≡ BadBuild → ⊥
+BuildClause (Some Play) told words status = status ≡ BadBuild → ⊥
 BuildClause (Some Check) told words status = OnTold (told (word words 1)) (λ bytes. Exactly (IsBadBuild bytes) BadBuild status)
 BuildClause (Some (OnBuild command)) told words status = OnTold (told (word words 1)) (λ bytes. Exactly (IsBadBuild bytes) BadBuild status)
 
@@ -78,6 +80,7 @@ BuildClause (Some (OnBuild command)) told words status = OnTold (told (word word
 abbrev pub BlockClause : Option Form → Told → List (List ℕ) → Status → Type 0
 BlockClause None told words status = status ≡ BadBlock → ⊥
 BlockClause (Some (Bench units)) told words status = status ≡ BadBlock → ⊥
+BlockClause (Some Play) told words status = status ≡ BadBlock → ⊥
 BlockClause (Some Check) told words status = OnTold (told (word words 1)) (λ bytes. Exactly (IsBadBlock bytes) BadBlock status)
 BlockClause (Some (OnBuild command)) told words status = OnTold (told (word words 1)) (λ bytes. Exactly (IsBadBlock bytes) BadBlock status)
 
@@ -85,10 +88,16 @@ BlockClause (Some (OnBuild command)) told words status = OnTold (told (word word
 abbrev pub IsBadScriptFor : List ℕ → List ℕ → Type 0
 IsBadScriptFor build_bytes bytes = (build : Plan) × (IsBuild build build_bytes × IsBadScript (tests_of build) bytes)
 
--- BadScript comes exactly where the script's file is bad for an accepted build.
+-- the graph is accepted, and the script's file is bad for it
+abbrev pub IsBadScriptOn : List ℕ → List ℕ → Type 0
+IsBadScriptOn graph_bytes bytes = (graph : Nodes) × (IsGraph graph graph_bytes × IsBadScript (graph_tests graph) bytes)
+
+-- BadScript comes exactly where the script's file is bad for an accepted build, or graph.
 abbrev pub ScriptClause : Option Form → Told → List (List ℕ) → Status → Type 0
 ScriptClause None told words status = status ≡ BadScript → ⊥
 ScriptClause (Some (Bench units)) told words status = status ≡ BadScript → ⊥
+ScriptClause (Some Play) told words status =
+    OnTold (told (word words 1)) (λ graph_bytes. OnTold (told (word words 2)) (λ bytes. Exactly (IsBadScriptOn graph_bytes bytes) BadScript status))
 ScriptClause (Some Check) told words status =
     OnTold (told (word words 1)) (λ build_bytes. OnTold (told (word words 2)) (λ bytes. Exactly (IsBadScriptFor build_bytes bytes) BadScript status))
 ScriptClause (Some (OnBuild command)) told words status =
@@ -106,13 +115,18 @@ pub record IsBadOrderFor (build_bytes script_bytes bytes : List ℕ) : Type 0 wh
 abbrev pub OrderClause : Option Form → Told → List (List ℕ) → Status → Type 0
 OrderClause None told words status = status ≡ BadOrder → ⊥
 OrderClause (Some (Bench units)) told words status = status ≡ BadOrder → ⊥
+OrderClause (Some Play) told words status = status ≡ BadOrder → ⊥
 OrderClause (Some Check) told words status =
     OnTold (told (word words 1)) (λ build_bytes. OnTold (told (word words 2)) (λ script_bytes. OnTold (told (word words 3)) (λ bytes. Exactly (IsBadOrderFor build_bytes script_bytes bytes) BadOrder status)))
 OrderClause (Some (OnBuild command)) told words status = status ≡ BadOrder → ⊥
 
--- No form of words asks for a graph's file.
-abbrev pub GraphClause : Status → Type 0
-GraphClause status = status ≡ BadGraph → ⊥
+-- BadGraph comes exactly where the graph's file is bad.
+abbrev pub GraphClause : Option Form → Told → List (List ℕ) → Status → Type 0
+GraphClause None told words status = status ≡ BadGraph → ⊥
+GraphClause (Some (Bench units)) told words status = status ≡ BadGraph → ⊥
+GraphClause (Some Play) told words status = OnTold (told (word words 1)) (λ bytes. Exactly (IsBadGraph bytes) BadGraph status)
+GraphClause (Some Check) told words status = status ≡ BadGraph → ⊥
+GraphClause (Some (OnBuild command)) told words status = status ≡ BadGraph → ⊥
 
 -- Done says that the whole text of the form was written.
 abbrev pub DoneClause : Option Form → Told → List (List ℕ) → (before now : Option (List ℕ)) → Status → Type 0
@@ -122,10 +136,12 @@ DoneClause form told words before now status = status ≡ Done → DidForm form 
 abbrev pub FrontClause : Option Form → Told → List (List ℕ) → (before now : Option (List ℕ)) → Status → Type 0
 FrontClause form told words before now status = status ≡ WriteFault → BeganForm form told words before now
 
--- An accepted build and script, and an order of them where the form has one, give Done where they are read, but for a fault that was counted and for want of memory.
+-- An accepted build or graph and a script of it, and an order of them where the form has one, give Done where they are read, but for a fault that was counted and for want of memory.
 abbrev pub CompleteClause : Option Form → Told → List (List ℕ) → Status → Type 0
 CompleteClause None told words status = Unit {0}
 CompleteClause (Some (Bench units)) told words status = (status ≡ Done) ⊎ ((status ≡ WriteFault) ⊎ (status ≡ NoMemory))
+CompleteClause (Some Play) told words status = (graph : Nodes) (script : Meaning) (graph_bytes bytes : List ℕ) → told (word words 1) ≡ Some graph_bytes → told (word words 2) ≡ Some bytes → IsGraph graph graph_bytes → IsScript (graph_tests graph) script bytes
+    → (status ≡ Done) ⊎ ((status ≡ ReadFault) ⊎ ((status ≡ WriteFault) ⊎ (status ≡ NoMemory)))
 CompleteClause (Some Check) told words status = (build : Plan) (script : Meaning) (order : List (List Pos)) (build_bytes script_bytes bytes : List ℕ) →
     told (word words 1) ≡ Some build_bytes → told (word words 2) ≡ Some script_bytes → told (word words 3) ≡ Some bytes →
     IsBuild build build_bytes → IsScript (tests_of build) script script_bytes → IsOrderFile build script order bytes
@@ -152,5 +168,6 @@ AskedClause form words before now = (name : List ℕ) → (IsFileWord form words
 abbrev pub UnreadClause : Option Form → (untouched : Type 0) → Type 0
 UnreadClause None untouched = untouched
 UnreadClause (Some Check) untouched = Unit {0}
+UnreadClause (Some Play) untouched = Unit {0}
 UnreadClause (Some (OnBuild command)) untouched = Unit {0}
 UnreadClause (Some (Bench units)) untouched = untouched

@@ -8,15 +8,18 @@ use Rattle.script.specs.Acts.{Meaning}
 use Rattle.script.specs.Scripts.{script_of}
 use Rattle.report.specs.declared.Fault.{Fault}
 use Rattle.report.specs.declared.Fault.TheVariants.{Usage, Read, Write, Build, BuildTooLong, Script, ScriptTooLong, Memory, Order, OrderTooLong, Graph, GraphTooLong}
+use Rattle.report.specs.declared.GraphRefusal.{GraphRefusal}
+use Rattle.graph.specs.Graph.{Nodes}
+use Rattle.graph_file.specs.GraphFile.{RefusesBytes}
 use Rattle.world_order.specs.declared.OrderRefusal.{OrderRefusal}
 use Rattle.world_order.specs.declared.OrderRefusal.TheVariants.{At, NoMemory as NoMemoryOfOrder}
 use Rattle.redpile_top.specs.declared.form.Command.{Command}
 use Rattle.redpile_top.specs.declared.form.Command.TheVariants.{World, Compile, Run}
 use Rattle.redpile_top.specs.declared.form.Form.{Form}
-use Rattle.redpile_top.specs.declared.form.Form.TheVariants.{OnBuild, Check, Bench}
-use Rattle.redpile_top.specs.Files.{Told, OnTold, IsBuild, Tests, tests_of, IsScript, HasBadOrderLine}
+use Rattle.redpile_top.specs.declared.form.Form.TheVariants.{OnBuild, Check, Play, Bench}
+use Rattle.redpile_top.specs.Files.{Told, OnTold, IsBuild, IsGraph, Tests, tests_of, graph_tests, IsScript, HasBadOrderLine}
 use Rattle.redpile_top.specs.Forms.{word}
-use Rattle.redpile_top.specs.Written.{WroteGraph, WroteGraphPrefix, WroteRunOf, WroteRunPrefixOf, WroteChecked, WroteCheckedPrefix, WroteSummary, WroteSummaryPrefix}
+use Rattle.redpile_top.specs.Written.{WroteGraph, WroteGraphPrefix, WroteRunOf, WroteRunPrefixOf, WroteChecked, WroteCheckedPrefix, WrotePlayed, WrotePlayedPrefix, WroteSummary, WroteSummaryPrefix}
 use Rattle.player.specs.Played.{WroteRun, WroteRunPrefix}
 
 abbrev pub Ending : Type 0
@@ -61,6 +64,14 @@ abbrev pub BuildCause : Option (List ℕ) → Option Refusal → Type 0
 BuildCause b None = Unit {0}
 BuildCause b (Some refusal) = OnTold b (λ bytes. (length bytes ≤ 67108864) × IsFirstRefusal bytes refusal)
 
+-- the graph's file is that of this graph, where it is told
+abbrev pub IsGraphOf : Option (List ℕ) → Nodes → Type 0
+IsGraphOf g graph = OnTold g (IsGraph graph)
+
+-- The graph's file has this first cause. Want of memory may come of any.
+abbrev pub GraphCause : Option (List ℕ) → GraphRefusal → Type 0
+GraphCause g refusal = OnTold g (λ bytes. (length bytes ≤ 268435456) × RefusesBytes bytes refusal)
+
 -- Build and script are accepted, and this holds of the order's file, where it is told.
 pub record OnOrder (b s o : Option (List ℕ)) (P : Plan → Meaning → List ℕ → Type 0) : Type 0 where
   pub build : Plan
@@ -96,6 +107,21 @@ CheckFaults b s o reading writing (Order line tick kind) = OnOrder b s o (λ bui
 CheckFaults b s o reading writing OrderTooLong = OnOrder b s o (λ build script bytes. 268435456 < length bytes)
 CheckFaults b s o reading writing fault = BuildFaults b s reading writing fault
 
+-- over a graph and a script
+abbrev pub PlayFaults : (g s : Option (List ℕ)) (reading writing : Type 0) → Fault → Type 0
+PlayFaults g s reading writing Usage = ⊥
+PlayFaults g s reading writing Read = reading
+PlayFaults g s reading writing Write = writing
+PlayFaults g s reading writing (Build refusal) = ⊥
+PlayFaults g s reading writing BuildTooLong = ⊥
+PlayFaults g s reading writing (Script refusal) = ScriptCause (IsGraphOf g) graph_tests s refusal
+PlayFaults g s reading writing ScriptTooLong = ScriptLongCause (IsGraphOf g) graph_tests s
+PlayFaults g s reading writing Memory = Unit {0}
+PlayFaults g s reading writing (Order line tick kind) = ⊥
+PlayFaults g s reading writing OrderTooLong = ⊥
+PlayFaults g s reading writing (Graph refusal) = GraphCause g refusal
+PlayFaults g s reading writing GraphTooLong = OnTold g (λ bytes. 268435456 < length bytes)
+
 -- where no file is read
 abbrev pub UnreadFaults : (writing : Type 0) → Fault → Type 0
 UnreadFaults writing Usage = ⊥
@@ -116,6 +142,7 @@ abbrev pub FaultsOf : Option Form → Told → List (List ℕ) → (reading writ
 FaultsOf None told words reading writing fault = fault ≡ Usage
 FaultsOf (Some (OnBuild command)) told words reading writing fault = BuildFaults (told (word words 1)) (told (word words 2)) reading writing fault
 FaultsOf (Some Check) told words reading writing fault = CheckFaults (told (word words 1)) (told (word words 2)) (told (word words 3)) reading writing fault
+FaultsOf (Some Play) told words reading writing fault = PlayFaults (told (word words 1)) (told (word words 2)) reading writing fault
 FaultsOf (Some (Bench units)) told words reading writing fault = UnreadFaults writing fault
 
 -- ---- what was done
@@ -137,6 +164,7 @@ abbrev pub DidForm : Option Form → Told → List (List ℕ) → (before now : 
 DidForm None told words before now = ⊥
 DidForm (Some (OnBuild command)) told words before now = Did (IsBuildOf (told (word words 1))) tests_of (told (word words 2)) (DidCommand command before now)
 DidForm (Some Check) told words before now = Did (IsBuildOf (told (word words 1))) tests_of (told (word words 2)) (WroteChecked (told (word words 3)) before now)
+DidForm (Some Play) told words before now = Did (IsGraphOf (told (word words 1))) graph_tests (told (word words 2)) (WrotePlayed before now)
 DidForm (Some (Bench units)) told words before now = WroteSummary units before now
 
 -- a prefix of such a text was written
@@ -144,6 +172,7 @@ abbrev pub BeganForm : Option Form → Told → List (List ℕ) → (before now 
 BeganForm None told words before now = ⊥
 BeganForm (Some (OnBuild command)) told words before now = Did (IsBuildOf (told (word words 1))) tests_of (told (word words 2)) (BeganCommand command before now)
 BeganForm (Some Check) told words before now = Did (IsBuildOf (told (word words 1))) tests_of (told (word words 2)) (WroteCheckedPrefix (told (word words 3)) before now)
+BeganForm (Some Play) told words before now = Did (IsGraphOf (told (word words 1))) graph_tests (told (word words 2)) (WrotePlayedPrefix before now)
 BeganForm (Some (Bench units)) told words before now = WroteSummaryPrefix units before now
 
 -- ---- how a call ends

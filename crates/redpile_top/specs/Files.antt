@@ -9,6 +9,9 @@ use Rattle.script.specs.declared.ScriptRefusal.TheVariants.{Line}
 use Rattle.script.specs.Acts.{Meaning}
 use Rattle.script.specs.Clickable.{takes_click, is_wire_at}
 use Rattle.script.specs.Scripts.{script_of}
+use Rattle.graph.specs.Graph.{Nodes}
+use Rattle.graph_file.specs.GraphFile.{IsGraphFile}
+use Rattle.graph_file.specs.Targets.{takes_click as node_takes_click, is_wire_at as is_wire_node_at}
 use Rattle.report.specs.declared.OrderKind.{OrderKind}
 use Rattle.world_order.specs.BadLine.{IsBadLine}
 use Rattle.world_order.specs.OrderText.{IsOrder}
@@ -49,6 +52,17 @@ pub record IsBadBlock (bytes : List ℕ) : Type 0 where
   pub name : List ℕ
   pub first : IsFirstRefusal bytes (unknown_block name)
 
+-- ---- of a graph
+
+-- The bytes are an accepted graph's.
+pub record IsGraph (graph : Nodes) (bytes : List ℕ) : Type 0 where
+  pub within : length bytes ≤ 268435456
+  pub is : IsGraphFile bytes graph
+
+-- They are too many, or no graph's.
+abbrev pub IsBadGraph : List ℕ → Type 0
+IsBadGraph bytes = (268435456 < length bytes) ⊎ ((graph : Nodes) → IsGraphFile bytes graph → ⊥)
+
 -- ---- of a script
 
 -- the two tests that a script's lines are put to: whether a click is taken at a place, and whether a wire stands there
@@ -58,6 +72,9 @@ pub record Tests : Type 0 where
 
 abbrev pub tests_of : Plan → Tests
 tests_of build = record { takes = takes_click build; wire = is_wire_at build }
+
+abbrev pub graph_tests : Nodes → Tests
+graph_tests graph = record { takes = node_takes_click graph; wire = is_wire_node_at graph }
 
 -- The bytes are an accepted script's.
 pub record IsScript (tests : Tests) (script : Meaning) (bytes : List ℕ) : Type 0 where

@@ -5,7 +5,7 @@ use Rattle.rp_text.specs.Numbers.{u32_of}
 use Rattle.redpile_top.specs.declared.form.Command.{Command}
 use Rattle.redpile_top.specs.declared.form.Command.TheVariants.{World, Compile, Run}
 use Rattle.redpile_top.specs.declared.form.Form.{Form}
-use Rattle.redpile_top.specs.declared.form.Form.TheVariants.{OnBuild, Check, Bench}
+use Rattle.redpile_top.specs.declared.form.Form.TheVariants.{OnBuild, Check, Play, Bench}
 use Rattle.redpile_top.specs.declared.form.NodeChoice.{NodeChoice}
 use Rattle.redpile_top.specs.declared.form.NodeChoice.TheVariants.{Pruned, Kept, KeptInOrder}
 
@@ -47,9 +47,17 @@ check_of [] = None
 check_of (order ∷ []) = Some Check
 check_of (order ∷ more ∷ words) = None
 
--- a form over a build and a script, by its name and by what stands behind their words
+-- `play`, by the words behind those of the graph and the script
+abbrev pub play_of : List (List ℕ) → Option Form
+play_of [] = Some Play
+play_of (more ∷ words) = None
+
+-- a form over a build or a graph, and a script, by its name and by what stands behind their words
 abbrev pub on_files : List ℕ → List (List ℕ) → Option Form
-on_files name rest = if bytes_eq name (codes "check") then check_of rest else option_map OnBuild (command_of name rest)
+on_files name rest =
+    if bytes_eq name (codes "check") then check_of rest
+    else if bytes_eq name (codes "play") then play_of rest
+    else option_map OnBuild (command_of name rest)
 
 -- a number of units is from 1 to 4,000
 abbrev pub is_units : ℕ → Bool
@@ -65,7 +73,7 @@ bench_of name number = if bytes_eq name (codes "bench") then option_map Bench (u
 -- The form that the words have, if they have one. The flags stand last.
 abbrev pub form_of : List (List ℕ) → Option Form
 form_of (name ∷ number ∷ []) = bench_of name number
-form_of (name ∷ build ∷ script ∷ rest) = on_files name rest
+form_of (name ∷ file ∷ script ∷ rest) = on_files name rest
 form_of words = None
 
 -- the word in a place, counted from 0
@@ -77,11 +85,13 @@ pub data FileKind : Type 0 where
   BuildFile : FileKind
   ScriptFile : FileKind
   OrderFile : FileKind
+  GraphFile : FileKind
 
 -- the files that words of this form name, in order, the first of them by the word in place 1
 abbrev pub files_of : Form → List FileKind
 files_of (OnBuild command) = BuildFile ∷ ScriptFile ∷ []
 files_of Check = BuildFile ∷ ScriptFile ∷ OrderFile ∷ []
+files_of Play = GraphFile ∷ ScriptFile ∷ []
 files_of (Bench units) = []
 
 -- The word in this place or in a later one names a file, and is this name.

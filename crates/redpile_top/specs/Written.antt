@@ -10,6 +10,7 @@ use Rattle.build.specs.Plan.{Plan}
 use Rattle.build.specs.Outputs.{outputs}
 use Rattle.graph.specs.Graph.{Nodes}
 use Rattle.graph.specs.GraphText.{graph_text}
+use Rattle.graph_machine.specs.Headed.{graph_outputs}
 use Rattle.graph_file.specs.Json.{json_text}
 use Rattle.power_rules.specs.World.{world_circuit, shows}
 use Rattle.report.specs.declared.Counts.{Counts}
@@ -151,6 +152,25 @@ pub record WroteCheckedPrefix (o : Option (List ℕ)) (before now : Option (List
   pub order : List (List Pos)
   pub is_order : OnTold o (IsOrderFile build script order)
   pub wrote : WrotePrefix before now (checked_text (ticks_in script.acts) (fires_in order))
+
+-- ---- `play`: the run of a graph
+
+-- the header is that of the graph's outputs
+abbrev pub played_text : Nodes → Meaning → List (List ℕ) → Counts → List ℕ
+played_text g script views counts = run_text (header (graph_outputs g)) script.acts views (run_trailer counts)
+
+-- The views are those of one run of the graph, with its counts.
+pub record WrotePlayed (before now : Option (List ℕ)) (graph : Nodes) (script : Meaning) : Type 0 where
+  pub views : List (List ℕ)
+  pub counts : Counts
+  pub run : ShowsCounted graph script.acts views counts
+  pub wrote : Wrote before now (played_text graph script views counts)
+
+pub record WrotePlayedPrefix (before now : Option (List ℕ)) (graph : Nodes) (script : Meaning) : Type 0 where
+  pub views : List (List ℕ)
+  pub counts : Counts
+  pub run : ShowsCounted graph script.acts views counts
+  pub wrote : WrotePrefix before now (played_text graph script views counts)
 
 -- ---- `bench`: the summary of a run of the compiled graph of the build and script that are made of so many units
 

@@ -4,12 +4,13 @@ ghost use Rattle.std.specs.Prelude.{◌≡◌, ◌≤◌, ◌<◌, IfOk, OnOk, O
 ghost use Rattle.rp_io.specs.Causes.{HasCause, Wrote, WrotePrefix};
 ghost use Rattle.circuit.specs.Taken.{EachActTaken};
 ghost use Rattle.graph.specs.GraphCircuit.{graph_circuit};
+ghost use Rattle.graph.specs.Sound.{IsSound};
 ghost use Rattle.player.specs.Ending.{EndsWriting};
 ghost use Rattle.report.specs.CheckedText.{checked_text};
 ghost use Rattle.script.specs.Clickable.{takes_click, is_wire_at};
 ghost use Rattle.script.specs.Fit.{IsFit};
 ghost use Rattle.redpile_top.specs.Ends.{DidCommand, BeganCommand};
-ghost use Rattle.redpile_top.specs.Written.{keep_of, is_ordered, compile_text, front_of, WroteGraph, WroteGraphPrefix, WroteBehind, WroteBehindPrefix, WroteRunOf, WroteRunPrefixOf, WroteSummary, WroteSummaryPrefix, HasSummary};
+ghost use Rattle.redpile_top.specs.Written.{keep_of, is_ordered, compile_text, front_of, WroteGraph, WroteGraphPrefix, WroteBehind, WroteBehindPrefix, WroteRunOf, WroteRunPrefixOf, WrotePlayed, WrotePlayedPrefix, WroteSummary, WroteSummaryPrefix, HasSummary};
 
 use crate::form::{Command, NodeChoice};
 use build::{Build, outputs};
@@ -17,7 +18,8 @@ use compiler::{Keep, compile_build};
 use generator::make;
 use graph::Graph;
 use graph_file::to_text;
-use player::{PlayRefusal, ReadyGraph, Steps, play_silently, play_world};
+use graph_machine::outputs_of;
+use player::{PlayRefusal, ReadyGraph, Steps, play, play_silently, play_world};
 use report::{LineBuf, push_checked, push_summary};
 use rp_io::{Sink, WriteFault, put_all};
 use rp_text::{NoMemory, push_bytes};
@@ -176,6 +178,44 @@ pub fn put_checked<O: Sink>(alloc: Global, checked: Checked, out: &mut O) -> Res
     let mut line = LineBuf::new(alloc, CHECKED_ROOM)?;
     push_checked(&mut line, checked.ticks, checked.fires);
     put(out, line.bytes())
+}
+
+/// The command `play`: the run of a graph.
+pub fn play_graph<O: Sink>(
+    alloc: Global,
+    graph: &Graph,
+    script: &Script,
+    out: &mut O,
+) -> Result<(), PlayRefusal>
+    requires sound { IsSound graph.now.nodes }
+    requires taken { EachActTaken (graph_circuit graph.now.nodes) script.now.acts }
+    ensures { EndsWriting (λ done. WrotePlayed (O.written out.old) (O.written out.new) graph.now.nodes script.now)
+        (WrotePlayedPrefix (O.written out.old) (O.written out.new) graph.now.nodes script.now) (out.new ≡ out.old) (O.faults out.old) (O.faults out.new) result }
+{
+    play_counted::<O, Brand>(alloc, graph, script, out, Blank::new(1))
+}
+
+fn play_counted<O: Sink, L: Ledger>(
+    alloc: Global,
+    graph: &Graph,
+    script: &Script,
+    out: &mut O,
+    blank: Blank,
+) -> Result<(), PlayRefusal>
+    requires sound { IsSound graph.now.nodes }
+    requires taken { EachActTaken (graph_circuit graph.now.nodes) script.now.acts }
+    requires name { blank.name ≡ L.name }
+    requires parts { blank.parts ≡ L.parts }
+    requires some { 0 < L.parts }
+    ensures { EndsWriting (λ done. WrotePlayed (O.written out.old) (O.written out.new) graph.now.nodes script.now)
+        (WrotePlayedPrefix (O.written out.old) (O.written out.new) graph.now.nodes script.now) (out.new ≡ out.old) (O.faults out.old) (O.faults out.new) result }
+{
+    let places = outputs_of(alloc, graph)?;
+    let mut steps: Steps<L> = Steps::new(blank);
+    match play(alloc, graph, &places, script, out, &mut steps) {
+        Ok(_) => Ok(()),
+        Err(refusal) => Err(refusal),
+    }
 }
 
 /// The command `bench`: the summary of a run of the compiled graph of so many units.

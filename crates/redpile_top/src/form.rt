@@ -1,7 +1,7 @@
 //! The forms of the words.
 
 ghost use Rattle.std.specs.Prelude.{◌≡◌, map, string_bytes};
-ghost use Rattle.redpile_top.specs.Forms.{choice_of, run_of, compile_of, unflagged, command_of, check_of, on_files, units_within, bench_of, form_of, word};
+ghost use Rattle.redpile_top.specs.Forms.{choice_of, run_of, compile_of, unflagged, command_of, check_of, play_of, on_files, units_within, bench_of, form_of, word};
 
 use rp_text::read_u32;
 
@@ -35,6 +35,8 @@ pub enum Form {
     OnBuild { command: Command },
     /// `check BUILD SCRIPT ORDER`, whose files are named by the words in the places 1 to 3.
     Check,
+    /// `play GRAPH SCRIPT`, whose files are named by the words in the places 1 and 2.
+    Play,
     /// `bench N`, with a number from 1 to 4,000.
     Bench { units: u32 },
 }
@@ -50,12 +52,14 @@ pub fn form_of(words: &[String]) -> Option<Form>
     }
 }
 
-// A form over a build and a script, by its name and by what stands behind their words.
+// A form over a build or a graph, and a script, by its name and by what stands behind their words.
 fn on_files(name: &str, rest: &[String]) -> Option<Form>
     ensures { result ≡ on_files name.now (map string_bytes rest.now) }
 {
     if name == "check" {
         check_of(rest)
+    } else if name == "play" {
+        play_of(rest)
     } else {
         let command = command_of(name, rest)?;
         Some(Form::OnBuild { command })
@@ -68,6 +72,16 @@ fn check_of(rest: &[String]) -> Option<Form>
 {
     match rest {
         [_] => Some(Form::Check),
+        _ => None,
+    }
+}
+
+// `play`, by the words behind those of the graph and the script.
+fn play_of(rest: &[String]) -> Option<Form>
+    ensures { result ≡ play_of (map string_bytes rest.now) }
+{
+    match rest {
+        [] => Some(Form::Play),
         _ => None,
     }
 }

@@ -10,6 +10,8 @@ mod graph_tests;
 #[cfg(test)]
 mod order_tests;
 #[cfg(test)]
+mod play_tests;
+#[cfg(test)]
 mod row_tests;
 mod status;
 #[cfg(test)]

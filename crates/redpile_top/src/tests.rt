@@ -877,7 +877,7 @@ fn all_are_usage(rt: &impl Abort, alloc: Global, rows: &[&[&str]]) -> Result<(),
 
 #[test]
 fn usage(rt: HostRuntime) -> Result<(), Fail> {
-    let words: [&[&str]; 15] = [
+    let words: [&[&str]; 19] = [
         &[],
         &["world"],
         &["world", "a"],
@@ -893,6 +893,10 @@ fn usage(rt: HostRuntime) -> Result<(), Fail> {
         &["check", "a"],
         &["check", "a", "b"],
         &["check", "a", "b", "c", "d"],
+        &["play"],
+        &["play", "a"],
+        &["play", "a", "b", "c"],
+        &["play", "a", "b", "--graph"],
     ];
     all_are_usage(&rt, rt.alloc(), &words)
 }

@@ -7,20 +7,24 @@ ghost use Rattle.report.specs.RoomyText.{empty_text};
 ghost use Rattle.script.specs.Clickable.{takes_click, is_wire_at};
 ghost use Rattle.script.specs.Fit.{IsFit};
 ghost use Rattle.redpile_top.specs.Forms.{form_of, word};
-ghost use Rattle.redpile_top.specs.Files.{tests_of};
-ghost use Rattle.redpile_top.specs.Written.{WroteChecked, WroteCheckedPrefix, WroteSummary, WroteSummaryPrefix};
-ghost use Rattle.redpile_top.specs.Ends.{fault_of_order, Accepted, Did, BuildFaults, CheckFaults, UnreadFaults, FaultsOf, IsBuildOf, DidCommand, BeganCommand, Ends, Ran};
+ghost use Rattle.graph.specs.Sound.{IsSound};
+ghost use Rattle.graph_file.specs.Targets.{takes_click as node_takes_click, is_wire_at as is_wire_node_at};
+ghost use Rattle.redpile_top.specs.Files.{tests_of, graph_tests};
+ghost use Rattle.redpile_top.specs.Written.{WroteChecked, WroteCheckedPrefix, WrotePlayed, WrotePlayedPrefix, WroteSummary, WroteSummaryPrefix};
+ghost use Rattle.redpile_top.specs.Ends.{fault_of_order, Accepted, Did, BuildFaults, CheckFaults, PlayFaults, UnreadFaults, FaultsOf, IsBuildOf, IsGraphOf, DidCommand, BeganCommand, Ends, Ran};
 ghost use Rattle.redpile_top.specs.Clauses.{IsConstant, IsConstantFault, AskedClause, UnreadClause, BuildClause, BlockClause, ScriptClause, OrderClause, GraphClause, DoneClause, FrontClause, CompleteClause, LineClause};
 
-use crate::commands::{bench, perform, put_checked};
+use crate::commands::{bench, perform, play_graph, put_checked};
 use crate::form::{Command, Form, form_of, word};
 use crate::status::{Status, status_of};
 use build::Build;
+use graph::Graph;
+use graph_file::{GraphTargets, from_bytes};
 use player::PlayRefusal;
 use report::{Fault, LineBuf, push_fault};
 use rp_io::{Inputs, ReadRefusal, Sink, WriteFault, put_all, read_whole};
 use schematic::{BuildRefusal, read_build};
-use script::{Script, read_script};
+use script::{Script, read_script, read_script_on};
 use std::alloc::Global;
 use world_order::{OrderRefusal, check};
 
@@ -32,6 +36,9 @@ const SCRIPT_LIMIT: u64 = 1_048_576;
 
 /// The most bytes that an order's file may have.
 const ORDER_LIMIT: u64 = 268_435_456;
+
+/// The most bytes that a graph's file may have.
+const GRAPH_LIMIT: u64 = 268_435_456;
 
 /// Room for the line of every fault but for the name of a block.
 const FAULT_ROOM: usize = 128;
@@ -150,6 +157,74 @@ fn on_order<I: Inputs, O: Sink>(
     }
 }
 
+/// Reads a graph and a script of it, in this order.
+fn accepted_graph<I: Inputs>(
+    alloc: Global,
+    inputs: &mut I,
+    graph: &str,
+    script: &str,
+) -> Result<(Graph, Script), Fault>
+    ensures files { I.file inputs.new ≡ I.file inputs.old }
+    ensures asked { (name : List ℕ) → name ≢ graph.now → name ≢ script.now → I.asked inputs.new name ≡ I.asked inputs.old name }
+    ensures later { I.faults inputs.old ≤ I.faults inputs.new }
+    ensures ok { IfOk result (λ found. Accepted (IsGraphOf (I.file inputs.old graph.now)) graph_tests (I.file inputs.old script.now) found.0.nodes found.1) }
+    ensures sound { IfOk result (λ found. IsSound found.0.nodes) }
+    ensures script { IfOk result (λ found. IsFit (node_takes_click found.0.nodes) (is_wire_node_at found.0.nodes) found.1) }
+    ensures cause { IfErr result (PlayFaults (I.file inputs.old graph.now) (I.file inputs.old script.now) (Rose (I.faults inputs.old) (I.faults inputs.new)) ⊥) }
+{
+    let bytes = match read_whole(alloc, inputs, graph, GRAPH_LIMIT) {
+        Ok(bytes) => bytes,
+        Err(ReadRefusal::ReadFault) => return Err(Fault::Read),
+        Err(ReadRefusal::TooLong) => return Err(Fault::GraphTooLong),
+        Err(ReadRefusal::NoMemory) => return Err(Fault::Memory),
+    };
+    let graph = match from_bytes(alloc, &bytes) {
+        Ok(graph) => graph,
+        Err(refusal) => return Err(Fault::Graph { refusal }),
+    };
+    let text = match read_whole(alloc, inputs, script, SCRIPT_LIMIT) {
+        Ok(text) => text,
+        Err(ReadRefusal::ReadFault) => return Err(Fault::Read),
+        Err(ReadRefusal::TooLong) => return Err(Fault::ScriptTooLong),
+        Err(ReadRefusal::NoMemory) => return Err(Fault::Memory),
+    };
+    let targets = GraphTargets { graph: &graph };
+    let read = read_script_on(alloc, &text, &targets);
+    let GraphTargets { graph: _ } = targets;
+    match read {
+        Ok(script) => Ok((graph, script)),
+        Err(refusal) => Err(Fault::Script { refusal }),
+    }
+}
+
+/// The command `play`.
+fn on_graph<I: Inputs, O: Sink>(
+    alloc: Global,
+    inputs: &mut I,
+    graph: &str,
+    script: &str,
+    out: &mut O,
+) -> Result<(), Fault>
+    ensures files { I.file inputs.new ≡ I.file inputs.old }
+    ensures asked { (name : List ℕ) → name ≢ graph.now → name ≢ script.now → I.asked inputs.new name ≡ I.asked inputs.old name }
+    ensures read_later { I.faults inputs.old ≤ I.faults inputs.new }
+    ensures wrote_later { O.faults out.old ≤ O.faults out.new }
+    ensures ends { Ends (PlayFaults (I.file inputs.old graph.now) (I.file inputs.old script.now) (Rose (I.faults inputs.old) (I.faults inputs.new)) (Rose (O.faults out.old) (O.faults out.new)))
+        (out.new ≡ out.old)
+        (Did (IsGraphOf (I.file inputs.old graph.now)) graph_tests (I.file inputs.old script.now) (WrotePlayed (O.written out.old) (O.written out.new)))
+        (Did (IsGraphOf (I.file inputs.old graph.now)) graph_tests (I.file inputs.old script.now) (WrotePlayedPrefix (O.written out.old) (O.written out.new))) result }
+{
+    let (graph, script) = match accepted_graph(alloc, inputs, graph, script) {
+        Ok(found) => found,
+        Err(fault) => return Err(fault),
+    };
+    match play_graph(alloc, &graph, &script, out) {
+        Ok(()) => Ok(()),
+        Err(PlayRefusal::WriteFault) => Err(Fault::Write),
+        Err(PlayRefusal::NoMemory) => Err(Fault::Memory),
+    }
+}
+
 /// The command `bench`.
 fn on_units<O: Sink>(alloc: Global, units: u32, out: &mut O) -> Result<(), Fault>
     requires some { 1 ≤ units }
@@ -194,6 +269,7 @@ fn run_form<I: Inputs, O: Sink>(
             word(words, 3),
             out,
         ),
+        Form::Play => on_graph(alloc, inputs, word(words, 1), word(words, 2), out),
         Form::Bench { units } => on_units(alloc, units, out),
     }
 }
@@ -305,7 +381,9 @@ fn put_line<E: Sink>(err: &mut E, room: Option<LineBuf>, fault: &Fault) -> Resul
 /// plays a build of N units that it makes, 1 to 4,000, and writes a summary. `check BUILD SCRIPT
 /// ORDER` reads a text such as `run --keep --order` writes and plays the blocks as it says; it
 /// writes how many ticks and firings there are where all its lines are right, and names the first
-/// that isn't else. Any other words are Usage. A fault of `err` changes no status.
+/// that isn't else. `play GRAPH SCRIPT` reads a graph such as `compile --json` writes and a script of
+/// it, plays the graph as it stands, and writes what `run` does. Any other words are Usage. A fault
+/// of `err` changes no status.
 pub fn redpile<I: Inputs, O: Sink, E: Sink>(
     alloc: Global,
     words: &[String],
@@ -320,7 +398,7 @@ pub fn redpile<I: Inputs, O: Sink, E: Sink>(
     ensures block { let names = map string_bytes words.now in BlockClause (form_of names) (I.file inputs.old) names result }
     ensures script { let names = map string_bytes words.now in ScriptClause (form_of names) (I.file inputs.old) names result }
     ensures order { let names = map string_bytes words.now in OrderClause (form_of names) (I.file inputs.old) names result }
-    ensures graph { GraphClause result }
+    ensures graph { let names = map string_bytes words.now in GraphClause (form_of names) (I.file inputs.old) names result }
     ensures done { let names = map string_bytes words.now in DoneClause (form_of names) (I.file inputs.old) names (O.written out.old) (O.written out.new) result }
     ensures front { let names = map string_bytes words.now in FrontClause (form_of names) (I.file inputs.old) names (O.written out.old) (O.written out.new) result }
     ensures complete { let names = map string_bytes words.now in CompleteClause (form_of names) (I.file inputs.old) names result }

@@ -1,6 +1,6 @@
 //! The line of the last view.
 
-ghost use Rattle.std.specs.Prelude.{◌≡◌, ◌+◌, ◌*◌, ◌^◌, ◌<◌, ◌≤◌, ◌++◌, All, length, drop, set, IfOk, IfSome, OnOk, OnErr};
+ghost use Rattle.std.specs.Prelude.{◌≡◌, ◌+◌, ◌*◌, ◌^◌, ◌<◌, ◌≤◌, ◌++◌, All, length, take, drop, set, IfOk, IfSome, OnOk, OnErr};
 ghost use Rattle.rp_io.specs.Causes.{HasCause, Wrote, WrotePrefix};
 ghost use Rattle.report.specs.ViewLine.{view_line};
 ghost use Rattle.view_text.specs.Parts.{head_part};
@@ -12,6 +12,9 @@ use rp_io::{Sink, WriteFault, put_all};
 use rp_text::NoMemory;
 use std::alloc::Global;
 use std::marker::Model;
+
+// How many values are compared at once.
+const PART: usize = 64;
 
 /// The values of the last view, with the text of its line. A value that changes is put into the
 /// text where it stands; where its text is longer or shorter, the line is made anew before it is
@@ -89,8 +92,28 @@ impl LastView {
         requires small { All (λ value. value ≤ 15) values.now }
         ensures { self.new ≡ values.now }
     {
-        for index in 0..values.len() {
-            self.change(index, values[index]);
+        if self.values.as_slice() != values {
+            for part in 0..values.len() / PART + 1 {
+                let from = part * PART;
+                self.set_part(values, from, values.len().min(from + PART));
+            }
+        }
+    }
+
+    // Puts the values of the outputs from an index to an end, where those before stand already.
+    fn set_part(&mut self, values: &[u8], from: usize, end: usize)
+        requires whole { length values.now ≡ length self.old }
+        requires small { All (λ value. value ≤ 15) values.now }
+        requires order { from ≤ end }
+        requires inside { end ≤ length values.now }
+        requires before { take from self.old ≡ take from values.now }
+        ensures whole { length self.new ≡ length self.old }
+        ensures before { take end self.new ≡ take end values.now }
+    {
+        if self.values[from..end] != values[from..end] {
+            for index in from..end {
+                self.change(index, values[index]);
+            }
         }
     }
 

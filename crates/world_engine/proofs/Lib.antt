@@ -12,3 +12,5 @@ pub mod LevelSteps
 pub mod BaseSteps
 pub mod ToldSteps
 pub mod ValueSteps
+pub mod ScreenSteps
+pub mod OnceShown

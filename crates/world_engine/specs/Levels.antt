@@ -12,7 +12,8 @@ use Rattle.wire_shape.specs.Shape.{wire_at}
 use Rattle.cell_queue.specs.Held.{Holding, NoneNow}
 use Rattle.wiring.specs.Things.{Numbered, IsNumbered, held, nothing, spot}
 use Rattle.wiring.specs.Wired.{Wired, IsWired, base_for, bases_of, level_cells}
-use Rattle.world_engine.specs.Outlets.{Outlet, outlets_of}
+use Rattle.world_engine.specs.Outlets.{outlets_of}
+use Rattle.world_engine.specs.Screens.{Screened, AreFaced}
 use Rattle.world_engine.specs.Running.{given_by, after_attending, AreIdle, IsHolding}
 
 -- what each place reads where the things have these levels
@@ -92,10 +93,12 @@ pub record Rebased (m : Numbered) (t : Wired) (given : Pos → ℕ) (n i : ℕ) 
 
 -- ---- a world that runs
 
--- All have attended, nothing is due, and what is shown is that of the build.
-pub record IsRunning (m : Numbered) (t : Wired) (outlets : List Outlet) (h : Holding) (bases levels : List ℕ) (feeders : List (List ℕ)) : Type 0 where
+-- All have attended, nothing is due, and each output of the build shows what it must.
+pub record IsRunning (m : Numbered) (t : Wired) (s : Screened) (h : Holding) (bases levels : List ℕ) (feeders : List (List ℕ)) : Type 0 where
   pub numbered : IsNumbered m
-  pub shown : outlets ≡ outlets_of m
+  pub count : s.count ≡ length m.spots
+  pub shown : s.outlets ≡ outlets_of m
+  pub faced : AreFaced levels h.cells s
   pub playing : IsPlaying m t h bases levels feeders
   pub quiet : AreQuiet m h.cells levels
   pub none : NoneNow h

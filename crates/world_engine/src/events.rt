@@ -10,8 +10,10 @@ ghost use Rattle.cell_queue.specs.Held.{NoneNow};
 ghost use Rattle.world_engine.specs.Running.{circuit_of, state_of, spot, given_by, AreIdle, IsHolding, FiresAll, MayFire};
 ghost use Rattle.wiring.specs.Wired.{IsWired, bases_of};
 ghost use Rattle.world_engine.specs.Levels.{AreLevels, AreQuiet, IsPlaying};
+ghost use Rattle.world_engine.specs.Screens.{AreFaced};
 
 use crate::bases::{fill_bases, solve_levels};
+use crate::screen::Screen;
 use crate::settle::settle;
 use crate::sight::cell_at;
 use crate::told::{attend_all, fired};
@@ -74,19 +76,27 @@ fn fire_next(
     bases: &mut [u8],
     levels: &mut [u8],
     waves: &mut Waves,
+    screen: &mut Screen,
 ) -> Option<usize>
     requires playing { IsPlaying things.now wiring.now cells.old bases.old levels.old waves.old.feeders }
     requires quiet { AreQuiet things.now cells.old.cells levels.old }
+    requires count { screen.old.count ≡ length things.now.spots }
+    requires faced { AreFaced levels.old cells.old.cells screen.old }
     ensures state { MayFire things.now (state_of things.now cells.old) (state_of things.now cells.new) result }
     ensures playing { IsPlaying things.now wiring.now cells.new bases.new levels.new waves.new.feeders }
     ensures quiet { AreQuiet things.now cells.new.cells levels.new }
+    ensures faced { AreFaced levels.new cells.new.cells screen.new }
+    ensures outlets { screen.new.outlets ≡ screen.old.outlets }
+    ensures count { screen.new.count ≡ screen.old.count }
 {
     let _ = things.count();
     let Some(number) = cells.take_due() else {
         return None;
     };
     let cell = fired_from(things, wiring, cells, levels, number);
-    settle(things, wiring, cells, bases, levels, waves, number, cell);
+    settle(
+        things, wiring, cells, bases, levels, waves, screen, number, cell,
+    );
     Some(number)
 }
 
@@ -98,18 +108,24 @@ pub(crate) fn fire_due(
     bases: &mut [u8],
     levels: &mut [u8],
     waves: &mut Waves,
+    screen: &mut Screen,
 )
     requires late { 0 < cells.old.time }
     requires playing { IsPlaying things.now wiring.now cells.old bases.old levels.old waves.old.feeders }
     requires quiet { AreQuiet things.now cells.old.cells levels.old }
+    requires count { screen.old.count ≡ length things.now.spots }
+    requires faced { AreFaced levels.old cells.old.cells screen.old }
     ensures fired { FiresAll (circuit_of things.now) (state_of things.now cells.old) (state_of things.now cells.new) }
     ensures time { cells.new.time ≡ cells.old.time }
     ensures playing { IsPlaying things.now wiring.now cells.new bases.new levels.new waves.new.feeders }
     ensures quiet { AreQuiet things.now cells.new.cells levels.new }
+    ensures faced { AreFaced levels.new cells.new.cells screen.new }
+    ensures outlets { screen.new.outlets ≡ screen.old.outlets }
+    ensures count { screen.new.count ≡ screen.old.count }
     ensures none { NoneNow cells.new }
 {
     let _ = things.count();
-    while let Some(_number) = fire_next(things, wiring, cells, bases, levels, waves) {}
+    while let Some(_number) = fire_next(things, wiring, cells, bases, levels, waves, screen) {}
 }
 
 /// What a place takes of a click, and then all attend.
@@ -120,11 +136,14 @@ pub(crate) fn take_click(
     bases: &mut [u8],
     levels: &mut [u8],
     waves: &mut Waves,
+    screen: &mut Screen,
     pos: Pos,
     click: Click,
 ) -> Result<(), ClickRefusal>
     requires playing { IsPlaying things.now wiring.now cells.old bases.old levels.old waves.old.feeders }
     requires quiet { AreQuiet things.now cells.old.cells levels.old }
+    requires count { screen.old.count ≡ length things.now.spots }
+    requires faced { AreFaced levels.old cells.old.cells screen.old }
     requires none { NoneNow cells.old }
     ensures taken { OnOk result (Clicks (circuit_of things.now) pos click (state_of things.now cells.old) (state_of things.now cells.new)) }
     ensures refused { OnErr result (Takes (circuit_of things.now) pos click → ⊥) }
@@ -132,6 +151,9 @@ pub(crate) fn take_click(
     ensures time { cells.new.time ≡ cells.old.time }
     ensures playing { IsPlaying things.now wiring.now cells.new bases.new levels.new waves.new.feeders }
     ensures quiet { AreQuiet things.now cells.new.cells levels.new }
+    ensures faced { AreFaced levels.new cells.new.cells screen.new }
+    ensures outlets { screen.new.outlets ≡ screen.old.outlets }
+    ensures count { screen.new.count ≡ screen.old.count }
     ensures none { NoneNow cells.new }
 {
     let _ = things.count();
@@ -146,7 +168,9 @@ pub(crate) fn take_click(
         None => Err(ClickRefusal::NotClickable),
         Some(value) => {
             let clicked = Cell { value, ..cell };
-            settle(things, wiring, cells, bases, levels, waves, number, clicked);
+            settle(
+                things, wiring, cells, bases, levels, waves, screen, number, clicked,
+            );
             Ok(())
         }
     }

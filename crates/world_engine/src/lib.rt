@@ -5,6 +5,7 @@ mod bases;
 mod events;
 mod outlets;
 mod parts;
+mod screen;
 mod settle;
 mod sight;
 mod stored;

@@ -1,15 +1,8 @@
 //! How the outputs of a build are shown, by the numbers of its things.
 
-ghost use Rattle.std.specs.Prelude.{◌≡◌, ◌<◌, IfOk, length, map};
-ghost use Rattle.circuit.specs.Circuit.{seen};
-ghost use Rattle.circuit.specs.declared.Pos.{Pos};
-ghost use Rattle.build.specs.Outputs.{outputs};
-ghost use Rattle.wiring.specs.Things.{state_by};
-ghost use Rattle.world_engine.specs.Running.{circuit_of, IsHolding, shown_of};
-ghost use Rattle.world_engine.specs.Levels.{AreLevels};
+ghost use Rattle.std.specs.Prelude.{◌≡◌, IfOk};
 ghost use Rattle.world_engine.specs.Outlets.{outlet_at, outlet_of, outlets_of};
 
-use crate::valued::ValuedCells;
 use circuit::{Component, Pos};
 use rp_text::NoMemory;
 use std::alloc::Global;
@@ -56,39 +49,4 @@ pub(crate) fn outlets(alloc: Global, things: &Things) -> Result<Vec<Outlet>, NoM
         outlets.push(outlet_at(things, place.pos))?;
     }
     Ok(outlets)
-}
-
-// What is shown there.
-fn shown_at(things: &Things, cells: &ValuedCells, levels: &[u8], outlet: Outlet) -> u8
-    requires outlet { (p : Pos) × (outlet ≡ outlet_at things.now p) }
-    requires holding { IsHolding things.now cells.now }
-    requires right { AreLevels things.now cells.now.cells levels.now }
-    ensures { (p : Pos) → outlet ≡ outlet_at things.now p → result ≡ seen (circuit_of things.now) (state_by things.now 0 cells.now.cells) p }
-{
-    let _ = things.count();
-    match outlet {
-        Outlet::Blank => 0,
-        Outlet::Level(number) => levels[number as usize],
-        Outlet::Value(number) => cells.value(number as usize),
-    }
-}
-
-/// What the outputs show.
-pub(crate) fn view_into(
-    things: &Things,
-    cells: &ValuedCells,
-    levels: &[u8],
-    outlets: &[Outlet],
-    into: &mut [u8],
-)
-    requires holding { IsHolding things.now cells.now }
-    requires right { AreLevels things.now cells.now.cells levels.now }
-    requires outlets { outlets.now ≡ outlets_of things.now }
-    requires room { length into.old ≡ length outlets.now }
-    ensures { into.new ≡ map (shown_of things.now cells.now.cells) (outputs things.now.plan things.now.marks) }
-{
-    let _ = things.count();
-    for (index, outlet) in outlets.iter().enumerate() {
-        into[index] = shown_at(things, cells, levels, *outlet);
-    }
 }

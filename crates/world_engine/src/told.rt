@@ -1,22 +1,24 @@
 //! How things attend by the levels of their taps.
 
-ghost use Rattle.std.specs.Prelude.{◌≡◌, ◌<◌, Some, false, length};
+ghost use Rattle.std.specs.Prelude.{◌≡◌, ◌≢◌, ◌<◌, ◌⊎◌, ℕ, Some, false, length};
 ghost use Rattle.build.specs.Roles.{first_at, role_at};
 ghost use Rattle.circuit.specs.Component.{attended};
 ghost use Rattle.circuit.specs.Circuit.{attend, fired_at, seen_at};
 ghost use Rattle.circuit.specs.declared.Component.TheVariants.{Wire};
 ghost use Rattle.cell_queue.specs.Held.{cell_of};
-ghost use Rattle.wire_net.specs.Noted.{AreCells};
-ghost use Rattle.wire_net.specs.WaveSteps.{Has};
+ghost use Rattle.wire_net.specs.Noted.{AreCells, IsNoted};
+ghost use Rattle.wire_net.specs.WaveSteps.{AreBelow, Has};
 ghost use Rattle.wire_shape.specs.Shape.{wire_at};
 ghost use Rattle.wiring.specs.Things.{held, spot};
 ghost use Rattle.wiring.specs.Reads.{IsPlain};
 ghost use Rattle.wiring.specs.Wired.{IsWired};
 ghost use Rattle.world_engine.specs.Running.{circuit_of, given_by, state_of, IsHolding};
 ghost use Rattle.world_engine.specs.Levels.{AreLevels, AreQuiet, reads_by, HaveAttended, IsReader, IsReaderOf, IsTold};
+ghost use Rattle.world_engine.specs.Screens.{NoThing, Refaced};
 
 use crate::bases::row_level;
 use crate::parts::{is_first, is_wire_of, role_of, strengthened};
+use crate::screen::Screen;
 use crate::valued::ValuedCells;
 use circuit::{Cell, Component, Readings};
 use wire_net::Waves;
@@ -82,6 +84,7 @@ fn attend_thing(
     ensures attended { HaveAttended things.now cells.old.time levels.now cells.old.cells cells.new.cells (λ p. p ≡ spot things.now number) }
     ensures holding { IsHolding things.now cells.new }
     ensures time { cells.new.time ≡ cells.old.time }
+    ensures others { (k : ℕ) → k ≢ number → cell_of cells.new.cells k ≡ cell_of cells.old.cells k }
 {
     let _ = things.count();
     if is_wire_of(things, wiring, number) {
@@ -94,54 +97,89 @@ fn attend_thing(
     cells.hold(number, cell);
 }
 
-// The readers that tap a thing attend.
+// The thing of a number attends, and its output shows what it must.
+fn attend_shown(
+    things: &Things,
+    wiring: &Wiring,
+    levels: &[u8],
+    cells: &mut ValuedCells,
+    screen: &mut Screen,
+    number: usize,
+)
+    requires inside { number < length things.now.spots }
+    requires wired { IsWired things.now wiring.now }
+    requires whole { length levels.now ≡ length things.now.spots }
+    requires plain { IsPlain things.now.plan (held things.now levels.now 0) }
+    requires holding { IsHolding things.now cells.old }
+    requires count { screen.old.count ≡ length things.now.spots }
+    ensures attended { HaveAttended things.now cells.old.time levels.now cells.old.cells cells.new.cells (λ p. p ≡ spot things.now number) }
+    ensures holding { IsHolding things.now cells.new }
+    ensures time { cells.new.time ≡ cells.old.time }
+    ensures refaced { Refaced levels.now cells.old.cells cells.new.cells screen.old screen.new (λ n. n ≡ number) }
+{
+    attend_thing(things, wiring, levels, cells, number);
+    screen.refresh(levels, cells, number);
+}
+
+// The readers that tap a thing attend, and their outputs show what they must.
 fn attend_readers(
     things: &Things,
     wiring: &Wiring,
     levels: &[u8],
     cells: &mut ValuedCells,
+    screen: &mut Screen,
     tap: usize,
 )
     requires wired { IsWired things.now wiring.now }
     requires whole { length levels.now ≡ length things.now.spots }
     requires plain { IsPlain things.now.plan (held things.now levels.now 0) }
     requires holding { IsHolding things.now cells.old }
+    requires count { screen.old.count ≡ length things.now.spots }
     ensures attended { HaveAttended things.now cells.old.time levels.now cells.old.cells cells.new.cells (IsReader things.now wiring.now tap) }
     ensures holding { IsHolding things.now cells.new }
     ensures time { cells.new.time ≡ cells.old.time }
+    ensures refaced { Refaced levels.now cells.old.cells cells.new.cells screen.old screen.new NoThing }
 {
     for reader in wiring.readers(tap) {
-        attend_thing(things, wiring, levels, cells, *reader as usize);
+        attend_shown(things, wiring, levels, cells, screen, *reader as usize);
     }
 }
 
-// The readers that tap one of these things attend.
+// The readers that tap one of these things attend, and the outputs of these and of the readers
+// show what they must.
 fn attend_readers_of(
     things: &Things,
     wiring: &Wiring,
     levels: &[u8],
     cells: &mut ValuedCells,
+    screen: &mut Screen,
     taps: &[u32],
 )
     requires wired { IsWired things.now wiring.now }
     requires whole { length levels.now ≡ length things.now.spots }
     requires plain { IsPlain things.now.plan (held things.now levels.now 0) }
     requires holding { IsHolding things.now cells.old }
+    requires count { screen.old.count ≡ length things.now.spots }
+    requires below { AreBelow (length things.now.spots) taps.now }
     ensures attended { HaveAttended things.now cells.old.time levels.now cells.old.cells cells.new.cells (IsReaderOf things.now wiring.now (Has taps.now)) }
     ensures holding { IsHolding things.now cells.new }
     ensures time { cells.new.time ≡ cells.old.time }
+    ensures refaced { Refaced levels.now cells.old.cells cells.new.cells screen.old screen.new (Has taps.now) }
 {
     for tap in taps {
-        attend_readers(things, wiring, levels, cells, *tap as usize);
+        screen.refresh(levels, cells, *tap as usize);
+        attend_readers(things, wiring, levels, cells, screen, *tap as usize);
     }
 }
 
-/// The thing of a number attends, and so do the readers that tap a thing whose level changed.
+/// The thing of a number attends, and so do the readers that tap a thing whose level changed. The
+/// outputs of all these show what they must.
 pub(crate) fn attend_told(
     things: &Things,
     wiring: &Wiring,
     levels: &[u8],
     cells: &mut ValuedCells,
+    screen: &mut Screen,
     number: usize,
     waves: &Waves,
 )
@@ -151,14 +189,16 @@ pub(crate) fn attend_told(
     requires whole { length levels.now ≡ length things.now.spots }
     requires plain { IsPlain things.now.plan (held things.now levels.now 0) }
     requires holding { IsHolding things.now cells.old }
+    requires count { screen.old.count ≡ length things.now.spots }
     ensures attended { HaveAttended things.now cells.old.time levels.now cells.old.cells cells.new.cells (IsTold things.now wiring.now number waves.now) }
     ensures holding { IsHolding things.now cells.new }
     ensures time { cells.new.time ≡ cells.old.time }
+    ensures refaced { Refaced levels.now cells.old.cells cells.new.cells screen.old screen.new (λ n. (n ≡ number) ⊎ IsNoted waves.now n) }
 {
-    attend_thing(things, wiring, levels, cells, number);
-    attend_readers_of(things, wiring, levels, cells, waves.fallen());
+    attend_shown(things, wiring, levels, cells, screen, number);
+    attend_readers_of(things, wiring, levels, cells, screen, waves.fallen());
     for power in 0..16u8 {
-        attend_readers_of(things, wiring, levels, cells, waves.risen(power));
+        attend_readers_of(things, wiring, levels, cells, screen, waves.risen(power));
     }
 }
 

@@ -8,7 +8,7 @@ ghost use Rattle.power_rules.specs.World.{world_circuit};
 
 use crate::bases::level_waves;
 use crate::events::{begin, fire_due, take_click};
-use crate::outlets::{Outlet, outlets, view_into};
+use crate::screen::Screen;
 use crate::stored::stored_cells;
 use crate::valued::ValuedCells;
 use build::{Build, ClickRefusal, Marks};
@@ -23,13 +23,12 @@ use wiring::{Things, Wiring};
 #[derive(Drop)]
 pub struct World {
     things: Things,
-    // How the outputs are shown.
-    outlets: Vec<Outlet>,
     wiring: Wiring,
     cells: ValuedCells,
     bases: Vec<u8>,
     levels: Vec<u8>,
     waves: Waves,
+    screen: Screen,
 }
 
 impl Model for World {
@@ -40,7 +39,7 @@ impl Model for World {
 
     ghost view = { λ w. seen_as w.things w.cells.time w.cells.cells };
 
-    ghost invariant = { λ w. IsRunning w.things w.wiring w.outlets.items w.cells w.bases.items w.levels.items w.waves.feeders };
+    ghost invariant = { λ w. IsRunning w.things w.wiring w.screen w.cells w.bases.items w.levels.items w.waves.feeders };
 }
 
 impl World {
@@ -54,21 +53,21 @@ impl World {
         ensures start { IfOk result (λ world. state_in world ≡ start (world_circuit build.now marks.now)) }
     {
         let things = Things::new(alloc, build, marks)?;
-        let outlets = outlets(alloc, &things)?;
         let mut cells = ValuedCells::new(alloc, stored_cells(alloc, &things)?)?;
         let wiring = Wiring::new(alloc, &things)?;
         let mut bases = vec![in alloc; 0u8; things.count()]?;
         let mut levels = vec![in alloc; 0u8; things.count()]?;
         begin(&things, &wiring, &mut bases, &mut levels, &mut cells);
         let waves = level_waves(alloc, &things, &wiring, &cells, &bases)?;
+        let screen = Screen::new(alloc, &things, &levels, &cells)?;
         Ok(World {
             things,
-            outlets,
             wiring,
             cells,
             bases,
             levels,
             waves,
+            screen,
         })
     }
 
@@ -89,6 +88,7 @@ impl World {
             &mut self.bases,
             &mut self.levels,
             &mut self.waves,
+            &mut self.screen,
             pos,
             click,
         )
@@ -110,6 +110,7 @@ impl World {
             &mut self.bases,
             &mut self.levels,
             &mut self.waves,
+            &mut self.screen,
         );
     }
 
@@ -124,7 +125,7 @@ impl World {
     pub fn output_count(&self) -> usize
         ensures { result ≡ length (world_circuit self.now.plan self.now.marks).shown }
     {
-        self.outlets.len()
+        self.screen.len()
     }
 
     /// What the outputs show, in order of places: 0 or 1, and of a wire its power.
@@ -133,6 +134,6 @@ impl World {
         ensures values { into.new ≡ view (world_circuit self.now.plan self.now.marks) (state_in self.now) }
         ensures small { All (λ value. value ≤ 15) into.new }
     {
-        view_into(&self.things, &self.cells, &self.levels, &self.outlets, into);
+        into.copy_from_slice(self.screen.shown());
     }
 }

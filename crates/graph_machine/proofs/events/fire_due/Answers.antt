@@ -42,6 +42,9 @@ loop-key-preserved g c =
       time = ap (λ (s : State ℕ). s.time) one.after ∙ inv.time;
       playing = c.fire_next.ensures.playing;
       still = c.fire_next.ensures.still;
+      screen = c.fire_next.ensures.screen;
+      faced = c.fire_next.ensures.faced;
+      keys = c.fire_next.ensures.keys ∙ inv.keys;
       fired = fired_more nodes (held_state c.args.cells.now) (held_state c.loop-key.cells) (held_state c.fire_next.new.cells) c.args.fired.now.keys c.loop-key.fired.keys c.push.new.self.keys
           c.args.steps.now c.loop-key.steps c.fire_next.new.steps c.in-Some.key inv.fired one (c.push.ensures.keys ∙ ap (λ (k : ℕ). c.loop-key.fired.keys ++ k ∷ []) c.new.ensures)
           (subst (λ (n : Nodes). c.fire_next.new.steps ≤ c.loop-key.steps + reads_of n c.in-Some.key) inv.nodes c.in-Some.ensures.read);

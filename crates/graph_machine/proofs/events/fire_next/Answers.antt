@@ -5,6 +5,7 @@ use Rattle.graph.specs.GraphCircuit.{graph_circuit}
 use Rattle.cell_queue.specs.Held.{Holding, cell_of, CanFollow}
 use Rattle.graph_machine.specs.Playing.{held_state, fired_by}
 use Rattle.graph_machine.proofs.FireSteps.{fired_can_follow, fired_bounded, fires_one}
+use Rattle.graph_machine.proofs.ScreenSteps.{faced_taken}
 use Rattle.graph_machine.proofs.events.fire_next.Goals as goal
 
 pub change-requires-clause-follows : goal.change-requires-clause-follows
@@ -35,3 +36,6 @@ returns-in-Some-clause-state g c =
     let C = graph_circuit c.args.net.now.nodes in
     fires_one c.args.net.now c.args.cells.now c.in_ok-key.key c.requires.playing first c.in-Some.component (sym c.role.ensures ∙ c.in-Some.is) c.cell.result c.fired-cell.result held fired
     (held_state c.change.new.cells) (c.change.ensures.state ∙ ap (λ (h : Holding). attend C (put C (held_state h) c.in_ok-key.key c.fired-cell.result)) is)
+
+pub change-requires-clause-faced : goal.change-requires-clause-faced
+change-requires-clause-faced g c = faced_taken c.args.net.now c.args.cells.now c.take_due.new.self c.take_due.result c.args.screen.now c.take_due.ensures.taken c.requires.faced

@@ -1,5 +1,4 @@
-use Rattle.std.proofs.Common.{◌≡◌, ◌<◌, ℕ, true, List, Option, Some, sym, ◌∙◌, subst, arith}
-use Rattle.build.specs.declared.Pending.{Pending}
+use Rattle.std.proofs.Common.{◌≡◌, ◌<◌, ℕ, true, List, Option, sym, ◌∙◌, subst, arith}
 use Rattle.build.specs.Plan.{Plan, volume, place_of, is_pending, may_wait}
 use Rattle.handover.specs.declared.held.Held.{Held}
 use Rattle.handover.specs.GivenBack.{given_tick}

@@ -1,4 +1,3 @@
-use Rattle.std.proofs.Common.{sym}
 use Rattle.handover.proofs.Noted.{noted_next}
 use Rattle.handover.proofs.notes.note_node.Goals as goal
 

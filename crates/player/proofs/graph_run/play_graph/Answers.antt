@@ -5,8 +5,8 @@ use Rattle.player.specs.Played.{RanGraph, with_events}
 use Rattle.player.proofs.GraphRuns.{ran}
 use Rattle.player.proofs.graph_run.play_graph.Goals as goal
 
-pub returns : goal.returns
-returns g c =
+pub returns-clause-ran : goal.returns-clause-ran
+returns-clause-ran g c =
     let play = c.args.play.now in
     let nodes = play.machine.nodes in
     let acts = c.args.script.now.acts in

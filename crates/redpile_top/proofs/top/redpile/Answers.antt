@@ -2,8 +2,8 @@ use Rattle.std.proofs.Common.{◌∙◌, map, sym, subst, string_bytes}
 use Rattle.redpile_top.specs.declared.status.Status.{Status}
 use Rattle.redpile_top.specs.Forms.{form_of}
 use Rattle.redpile_top.specs.Ends.{Ran}
-use Rattle.redpile_top.specs.Clauses.{BuildClause, BlockClause, ScriptClause, OrderClause, FrontClause, CompleteClause}
-use Rattle.redpile_top.proofs.Endings.{build_done, block_done, script_done, order_done, build_failed, block_failed, script_failed, order_failed, graph_failed, complete_failed, front_failed, nothing_failed, never_done, line_written}
+use Rattle.redpile_top.specs.Clauses.{BuildClause, BlockClause, ScriptClause, OrderClause, GraphClause, FrontClause, CompleteClause}
+use Rattle.redpile_top.proofs.Endings.{build_done, block_done, script_done, order_done, graph_done, build_failed, block_failed, script_failed, order_failed, graph_failed, complete_failed, front_failed, nothing_failed, never_done, line_written}
 use Rattle.redpile_top.proofs.top.redpile.Goals as goal
 
 pub returns-in-Ok-clause-build : goal.returns-in-Ok-clause-build
@@ -91,12 +91,18 @@ returns-in-Ok-clause-order g c =
     let told = g.I.Inputs.file c.args.inputs.now in
     order_done told names _ _ _ _ _ (form_of names) (subst (Ran (form_of names) told names _ _ _ _ _) c.in-Ok.is c.run-ending.ensures.ran)
 
-pub returns-in-Err-clause-graph : goal.returns-in-Err-clause-graph
-returns-in-Err-clause-graph g c e =
+pub returns-in-Ok-clause-graph : goal.returns-in-Ok-clause-graph
+returns-in-Ok-clause-graph g c =
     let names = map string_bytes c.args.words.now in
     let told = g.I.Inputs.file c.args.inputs.now in
-    let ran : Ran (form_of names) told names _ _ _ _ _ _ = subst (Ran (form_of names) told names _ _ _ _ _) c.in-Err.is c.run-ending.ensures.ran in
-    graph_failed told names _ _ c.in-Err.fault (form_of names) ran.caused (sym c.status_of.ensures ∙ e)
+    graph_done told names _ _ _ _ _ (form_of names) (subst (Ran (form_of names) told names _ _ _ _ _) c.in-Ok.is c.run-ending.ensures.ran)
+
+pub returns-in-Err-clause-graph : goal.returns-in-Err-clause-graph
+returns-in-Err-clause-graph g c =
+    let names = map string_bytes c.args.words.now in
+    let told = g.I.Inputs.file c.args.inputs.now in
+    subst (λ (s : Status). GraphClause (form_of names) told names s) (sym c.status_of.ensures)
+    (graph_failed told names _ _ _ _ _ c.in-Err.fault (form_of names) (subst (Ran (form_of names) told names _ _ _ _ _) c.in-Err.is c.run-ending.ensures.ran))
 
 pub returns-in-Err-clause-line : goal.returns-in-Err-clause-line
 returns-in-Err-clause-line g c no_done =

@@ -19,6 +19,9 @@ loop-number-preserved c =
       time = ap (λ (s : State Pos). s.time) c.in-Some.ensures.state.1.after ∙ c.loop-number.invariant.time;
       playing = c.in-Some.ensures.playing;
       quiet = c.in-Some.ensures.quiet;
+      faced = c.in-Some.ensures.faced;
+      outlets = c.in-Some.ensures.outlets ∙ c.loop-number.invariant.outlets;
+      count = c.in-Some.ensures.count ∙ c.loop-number.invariant.count;
     }
 
 pub returns-clause-fired : goal.returns-clause-fired

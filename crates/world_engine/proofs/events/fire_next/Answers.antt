@@ -4,6 +4,7 @@ use Rattle.cell_queue.specs.Held.{Holding, CanFollow, cell_of}
 use Rattle.world_engine.specs.Running.{circuit_of, state_of, spot, IsHolding}
 use Rattle.world_engine.specs.Levels.{AreLevels, IsPlaying, OthersQuiet}
 use Rattle.world_engine.proofs.Playing.{inside, component, resting_playing, resting_quiet, fired_can_follow, fires_one, none_due}
+use Rattle.world_engine.proofs.ScreenSteps.{faced_taken}
 use Rattle.world_engine.proofs.events.fire_next.Goals as goal
 
 pub returns-in_default-clause-state : goal.returns-in_default-clause-state
@@ -62,3 +63,9 @@ returns-clause-state c =
       inside m w c.args.wiring.now c.args.cells.now c.args.bases.now c.args.levels.now c.args.waves.now.feeders c.in-Some.number c.requires.playing c.in-Some.ensures.taken.0,
       fires_one m w c.args.wiring.now c.args.cells.now c.args.bases.now c.args.levels.now c.args.waves.now.feeders c.in-Some.number c.requires.playing c.in-Some.ensures.taken.0 c.fired_from-cell.result fired (state_of m c.settle.new.cells) after,
     )
+
+pub settle-requires-clause-faced : goal.settle-requires-clause-faced
+settle-requires-clause-faced c = faced_taken c.args.levels.now c.args.cells.now c.take_due.new.self c.take_due.result c.args.screen.now c.take_due.ensures.taken c.requires.faced
+
+pub returns-in_default-clause-faced : goal.returns-in_default-clause-faced
+returns-in_default-clause-faced c = faced_taken c.args.levels.now c.args.cells.now c.take_due.new.self c.take_due.result c.args.screen.now c.take_due.ensures.taken c.requires.faced

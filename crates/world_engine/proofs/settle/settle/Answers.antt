@@ -1,6 +1,7 @@
 use Rattle.std.proofs.Common.{ℕ, List, length, set, sym, ap, subst, ◌∙◌}
 use Rattle.wire_net.specs.Net.{WasRight}
 use Rattle.wire_net.specs.Listed.{list_at}
+use Rattle.wire_net.specs.Noted.{IsNoted}
 use Rattle.wire_net.specs.WaveSteps.{AreBelow}
 use Rattle.cell_queue.specs.Held.{Holding}
 use Rattle.wiring.specs.Things.{state_by}
@@ -11,6 +12,7 @@ use Rattle.world_engine.specs.Running.{given_by, AreWithin, IsHolding}
 use Rattle.world_engine.specs.Levels.{AreLevels, HaveAttended, IsTold, Unbased}
 use Rattle.world_engine.proofs.LevelSteps.{given_other, putting_holds, levels_are_plain, levels_whole, bases-attended, settled_state, settled_levels, settled_quiet, settled_idle}
 use Rattle.world_engine.proofs.BaseSteps.{unbased_put}
+use Rattle.world_engine.proofs.ScreenSteps.{others_stay, faced_anew}
 use Rattle.world_engine.proofs.settle.settle.Goals as goal
 
 pub rebase-requires-clause-within : goal.rebase-requires-clause-within
@@ -119,3 +121,8 @@ returns-clause-quiet c =
     let all = subst (λ (h : Holding). HaveAttended m h.time ys h.cells c.attend_told.new.cells.cells (IsTold m t c.args.number c.relevel.new.waves)) c.hold.ensures c.attend_told.ensures.attended in
     settled_quiet m w t old c.args.bases.now c.args.levels.now c.args.waves.now.feeders c.args.number c.args.cell c.requires.playing c.requires.inside c.requires.bounded
     ys c.relevel.new.waves c.attend_told.new.cells.cells c.requires.quiet right c.relevel.ensures.noted all
+
+pub returns-clause-faced : goal.returns-clause-faced
+returns-clause-faced c =
+    faced_anew c.args.levels.now c.relevel.new.levels c.args.cells.now.cells c.hold.new.self.cells c.attend_told.new.cells.cells c.args.screen.now c.attend_told.new.screen c.args.number (IsNoted c.relevel.new.waves)
+    c.requires.faced (others_stay c.args.cells.now c.hold.new.self c.args.number c.args.cell c.hold.ensures) c.relevel.ensures.noted c.attend_told.ensures.refaced

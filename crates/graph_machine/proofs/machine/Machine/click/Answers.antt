@@ -18,7 +18,9 @@ invariant_of-self g c =
       still = c.set_value.ensures.still;
       none = none_after_click m.net.nodes m.cells c.set_value.new.cells c.in-Some.key c.unwrap-value.result c.self.invariant.none c.set_value.ensures.state;
       early = omega (arith, time, c.self.invariant.early);
-      outputs = c.self.invariant.outputs ∙ ap (λ (n : Nodes). (graph_circuit n).shown) (sym c.set_value.ensures.nodes);
+      outputs = c.set_value.ensures.keys ∙ c.self.invariant.outputs ∙ ap (λ (n : Nodes). (graph_circuit n).shown) (sym c.set_value.ensures.nodes);
+      screen = c.set_value.ensures.screen;
+      faced = c.set_value.ensures.faced;
       takers = subst (λ (n : Nodes). AreClicked n m.clicked) (sym c.set_value.ensures.nodes) c.self.invariant.takers;
       enough = subst (λ (n : Nodes). node_count n ≤ m.fired.room) (sym c.set_value.ensures.nodes) c.self.invariant.enough;
     }

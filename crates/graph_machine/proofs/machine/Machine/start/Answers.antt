@@ -14,6 +14,9 @@ pub new-requires-clause-soon : goal.new-requires-clause-soon
 new-requires-clause-soon c =
     begins_soon c.args.graph.now.nodes c.in_ok-cells.cells.items c.requires (λ key below. c.in_ok-cells.ensures.begin key (omega (arith, below, c.in_ok-cells.ensures.count)))
 
+pub new-requires-2 : goal.new-requires-2
+new-requires-2 c = c.in_ok-shown.ensures ∙ ap (λ (n : Nodes). (graph_circuit n).shown) (sym c.in_ok-net.ensures.nodes)
+
 pub invariant_of-result : goal.invariant_of-result
 invariant_of-result c =
     let w = c.in_ok-net.net in
@@ -36,7 +39,9 @@ invariant_of-result c =
       still = subst (λ t. AllStill w (record { time = t; cells = after })) (sym time) (start_still w cells after begins all);
       none = none_at_start c.attend_all.new.cells time;
       early = omega (arith, time);
-      outputs = c.in_ok-shown.ensures ∙ ap (λ (n : Nodes). (graph_circuit n).shown) (sym nodes);
+      outputs = c.in_ok-screen.ensures.keys;
+      screen = c.in_ok-screen.ensures.count;
+      faced = c.in_ok-screen.ensures.faced;
       takers = subst (λ (n : Nodes). AreClicked n c.in_ok-clicked.clicked) (sym nodes) c.in_ok-clicked.ensures;
       enough = omega (arith, many, c.in_ok-fired.ensures.room, c.node_count.ensures);
     }

@@ -1,8 +1,8 @@
-use Rattle.std.proofs.Common.{◌≡◌, ◌++◌, take, drop, length}
+use Rattle.std.proofs.Common.{◌≡◌, ◌*◌, min, take, length}
 use Rattle.view_text.proofs.last_view.LastView.set_all.Given as goal
 
-abbrev pub invariant-loop-index : goal.invariant-loop-index
-invariant-loop-index l = record {
-  done : l.self ≡ take l.index l.values ++ drop l.index l.fn.self;
+abbrev pub invariant-loop-part : goal.invariant-loop-part
+invariant-loop-part l = record {
+  before : take (min (length l.values) (l.part * 64)) l.self ≡ take (min (length l.values) (l.part * 64)) l.values;
   whole : length l.self ≡ length l.values;
 }

@@ -6,6 +6,7 @@ use Rattle.circuit.specs.Circuit.{State, start}
 use Rattle.build.specs.Plan.{Plan}
 use Rattle.power_rules.specs.World.{world_circuit}
 use Rattle.world_engine.specs.Levels.{AreLevels, AreQuiet}
+use Rattle.world_engine.specs.Screens.{AreFaced}
 use Rattle.world_engine.proofs.Held.{state-seen}
 use Rattle.world_engine.proofs.Playing.{none_at_start}
 use Rattle.world_engine.proofs.world.World.start.Goals as goal
@@ -22,7 +23,9 @@ invariant_of-result c =
     let time : cells.time ≡ 0 = ap (λ (s : State Pos). s.time) c.begin.ensures.start in
     record {
       numbered = c.count.ensures.numbered;
-      shown = c.in_ok-outlets.ensures;
+      count = c.in_ok-screen.ensures.count;
+      shown = c.in_ok-screen.ensures.outlets;
+      faced = subst (λ (xs : List ℕ). AreFaced xs cells.cells c.in_ok-screen.screen) c.deref-2.ensures.value c.in_ok-screen.ensures.faced;
       playing = record {
         wired = c.in_ok-wiring.ensures;
         holding = c.begin.ensures.holding;
