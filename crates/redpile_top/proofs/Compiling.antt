@@ -4,7 +4,7 @@ use Rattle.std.specs.List.{flat_map}
 use Rattle.std.proofs.lemmas.Grind.{flat_map-append}
 use Rattle.circuit.specs.declared.Act.{Act}
 use Rattle.circuit.specs.declared.Step.{Step}
-use Rattle.circuit.specs.Circuit.{Circuit, State, start, view}
+use Rattle.circuit.specs.Circuit.{State, start, view}
 use Rattle.circuit.specs.Shows.{Run, Ended, Clicked, Ticked, Plays, steps_of}
 use Rattle.circuit.specs.Taken.{EachActTaken}
 use Rattle.rp_io.specs.Causes.{Rose, Wrote, WrotePrefix}
@@ -31,7 +31,6 @@ use Rattle.compiler.specs.Compiled.{Compiled}
 use Rattle.compiler.specs.PlaceOrder.{expand, places_under}
 use Rattle.compiler.proofs.CompiledLaws.{compiled_shows, compiled_takes}
 use Rattle.compiler.proofs.PlacedLaws.{compiled_in_places}
-use Rattle.player.specs.declared.PlayRefusal.{PlayRefusal}
 use Rattle.player.specs.declared.PlayRefusal.TheVariants.{WriteFault}
 use Rattle.player.specs.Ending.{EndsWriting}
 use Rattle.player.specs.Noted.{node_lines}

@@ -20,7 +20,7 @@ use Rattle.redpile_top.specs.declared.status.Status.TheVariants.{Done, Usage, Re
 use Rattle.redpile_top.specs.Forms.{word}
 use Rattle.redpile_top.specs.Files.{Told, OnTold, IsBuild, is_block, IsBadBuild, IsBadBlock, tests_of, IsScript, IsBadScript, IsOrderFile, IsBadOrder}
 use Rattle.redpile_top.specs.Ends.{Ran, Accepted, BuildFaults, CheckFaults, UnreadFaults, IsBuildOf, BuildCause, ScriptCause, BeganForm, OnWriteFault, ButForWrites}
-use Rattle.redpile_top.specs.Clauses.{IsBadScriptFor, IsBadOrderFor, Exactly, BuildClause, BlockClause, ScriptClause, OrderClause, GraphClause, FrontClause, CompleteClause, status_of, status_of_cause, status_of_script, status_of_graph}
+use Rattle.redpile_top.specs.Clauses.{IsBadScriptFor, IsBadOrderFor, Exactly, BuildClause, BlockClause, ScriptClause, OrderClause, GraphClause, FrontClause, CompleteClause, status_of, status_of_cause, status_of_script}
 use Rattle.redpile_top.proofs.Answering.{never, by_read, by_memory, here, not_bad_script, cause_other, script_other, graph_other}
 use Rattle.redpile_top.proofs.Playing.{Began as BeganPlay, graph_accepted, script_accepted as script_accepted_on, graph_over, script_over as script_over_graph, complete_over as complete_over_graph, play_alone}
 

@@ -7,7 +7,7 @@ use Rattle.compiler.proofs.CompiledLaws.{compiled_sound}
 use Rattle.compiler.specs.Compiled.{Compiled}
 use Rattle.compiler.specs.declared.Keep.{Keep}
 use Rattle.player.specs.Started.{Ready}
-use Rattle.redpile_top.specs.Written.{keep_of, is_ordered, WroteBehind, WroteBehindPrefix}
+use Rattle.redpile_top.specs.Written.{WroteBehind, WroteBehindPrefix}
 use Rattle.redpile_top.proofs.Compiling.{graph_takes, wrote_run, began_run, ended_whole, ended_front}
 use Rattle.redpile_top.proofs.commands.run_compiled.Goals as goal
 
