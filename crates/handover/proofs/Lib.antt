@@ -5,3 +5,5 @@ pub mod Keepers
 pub mod Saved
 pub mod Ready
 pub mod Popped
+pub mod Timely
+pub mod WholeAgain

@@ -158,7 +158,7 @@ with_ticks_to-more b held i = by_tick (tick_by b held i) refl
         ap (λ (ticks : List Pending). record (with_levels_by b held) { pending = ticks })
         (sym (ticks_to-more b held i ∙ ap (λ (tick : Option Pending). ticks_to b held i ++ filter_map (λ (one : Option Pending). one) (tick ∷ [])) e))
 
-given_tick-pos : (p : Pos) (held : Option Held) (tick : Pending) → given_tick p held ≡ Some tick → tick.pos ≡ p
+pub given_tick-pos : (p : Pos) (held : Option Held) (tick : Pending) → given_tick p held ≡ Some tick → tick.pos ≡ p
 given_tick-pos p None tick e = absurd (cc)
 given_tick-pos p (Some held) tick e = by_wait held.wait e
   where
