@@ -1,7 +1,8 @@
 -- What an ending of `play` says of the status that it gives.
 use Rattle.std.proofs.Common.{◌≡◌, ◌⊎◌, ◌≤◌, inl, inr, ℕ, List, length, refl, sym, ap, subst, ◌∙◌, arith, Option, Some, None, Err}
 use Rattle.graph.specs.Graph.{Nodes}
-use Rattle.graph_file.specs.GraphFile.{IsGraphFile, RefusesBytes, cause_of, graph_of}
+use Rattle.graph_file.specs.GraphFile.{IsGraphFile, RefusesBytes, cause_of}
+use Rattle.graph_file.proofs.OneFile.{one_file}
 use Rattle.script.specs.declared.ScriptRefusal.{ScriptRefusal}
 use Rattle.script.specs.declared.ScriptRefusal.TheVariants.{Line, NoMemory as NoMemoryOfScript}
 use Rattle.script.specs.Acts.{Meaning}
@@ -18,17 +19,10 @@ use Rattle.redpile_top.proofs.Answering.{never, by_read, by_memory, here, not_ba
 
 -- ---- what excludes what
 
--- the bytes are those of one graph at most
-one_graph : (bytes : List ℕ) (g h : Nodes) → IsGraphFile bytes g → IsGraphFile bytes h → g ≡ h
-one_graph bytes g h a b =
-    let both : Some a.value ≡ Some b.value = sym a.json.value ∙ b.json.value in
-    let same : a.value ≡ b.value = cc in
-    a.means ∙ ap graph_of same ∙ sym b.means
-
 no_cause : (cause : Option GraphRefusal) (refusal : GraphRefusal) → cause ≡ None → cause ≡ Some refusal → ⊥
 no_cause cause refusal none some = let clash : None ≡ Some refusal = sym none ∙ some in cc
 
--- and of none, where they are refused
+-- what is refused is no graph's
 no_graph : (bytes : List ℕ) (refusal : GraphRefusal) → status_of_graph refusal ≡ BadGraph → RefusesBytes bytes refusal → (g : Nodes) → IsGraphFile bytes g → ⊥
 no_graph bytes Json h refused g is = refused is.value is.json
 no_graph bytes Whole h refused g is =
@@ -54,7 +48,7 @@ not_bad_graph bytes graph good bad = elim bad [
 -- for an accepted graph and script no graph makes the script bad
 not_bad_script_on : (graph_bytes bytes : List ℕ) (graph : Nodes) (script : Meaning) → IsGraph graph graph_bytes → IsScript (graph_tests graph) script bytes → IsBadScriptOn graph_bytes bytes → ⊥
 not_bad_script_on graph_bytes bytes graph script is_graph is_script bad =
-    let same = one_graph graph_bytes bad.0 graph (bad.1).0.is is_graph.is in
+    let same = one_file graph_bytes bad.0 graph (bad.1).0.is is_graph.is in
     not_bad_script bytes (graph_tests graph) script is_script (subst (λ (g : Nodes). IsBadScript (graph_tests g) bytes) same (bad.1).1)
 
 -- where graph and script are accepted, no status tells that one of them is bad

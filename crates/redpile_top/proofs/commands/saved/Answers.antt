@@ -1,5 +1,4 @@
 use Rattle.std.proofs.Common.{List, subst}
-use Rattle.build.specs.Plan.{IsWhole}
 use Rattle.compiler.proofs.BuildPlaces.{compiled_blocks}
 use Rattle.compiler.proofs.CompiledLaws.{compiled_sound}
 use Rattle.compiler.specs.Compiled.{Compiled}
