@@ -10,7 +10,7 @@ use Rattle.circuit.specs.Circuit.{Each, EachBefore}
 use Rattle.graph.specs.Clicks.{answers, answers_at, is_same_place, is_wire, is_wire_at as is_wire_entry}
 use Rattle.graph.specs.declared.Kind.{Kind}
 use Rattle.graph.specs.Graph.{Node, Nodes, node_at}
-use Rattle.graph.specs.Sound.{IsSound, places_at, places_of}
+use Rattle.graph.specs.Sound.{IsSound, places_of}
 use Rattle.graph_file.specs.Placed.{with_kind, kind_at, kind_answers, kind_takes, is_wire_kind}
 use Rattle.graph_file.specs.Targets.{is_weighable, takes_click, is_wire_at}
 use Rattle.graph_file.proofs.SeenSteps.{place_one}

@@ -1,5 +1,5 @@
 -- What stands at a place, by the first node of the place.
-use Rattle.std.specs.Prelude.{Bool, false, ◌&&◌, cond, List, [], ◌∷◌, Option, Some, None}
+use Rattle.std.specs.Prelude.{Bool, false, ◌&&◌, cond, [], ◌∷◌, Option, Some, None}
 use Rattle.circuit.specs.declared.Click.{Click}
 use Rattle.circuit.specs.declared.Pos.{Pos}
 use Rattle.graph.specs.Clicks.{answers, is_same_place, is_wire}

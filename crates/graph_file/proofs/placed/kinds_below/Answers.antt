@@ -1,7 +1,6 @@
-use Rattle.std.proofs.Common.{◌≡◌, ◌-◌, ℕ, suc, Option, drop, sym, ap, ◌∙◌, subst, arith}
+use Rattle.std.proofs.Common.{◌≡◌, ◌-◌, ℕ, suc, Option, drop, sym, ap, ◌∙◌, arith}
 use Rattle.std.specs.HashMap.{get}
 use Rattle.std.specs.Map.{lookup}
-use Rattle.circuit.specs.declared.Pos.{Pos}
 use Rattle.graph.specs.Clicks.{is_same_place}
 use Rattle.graph.specs.Graph.{Node, node_at}
 use Rattle.graph_file.specs.Placed.{with_kind, kind_at}

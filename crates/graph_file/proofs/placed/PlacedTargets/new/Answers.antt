@@ -1,4 +1,3 @@
-use Rattle.std.proofs.Common.{◌≡◌}
 use Rattle.std.specs.HashMap.{get}
 use Rattle.graph.specs.Clicks.{is_same_place}
 use Rattle.graph_file.proofs.PlacedSteps.{takes_placed, wire_placed}
