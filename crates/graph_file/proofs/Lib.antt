@@ -12,6 +12,7 @@ pub mod SoundFile
 pub mod SendSteps
 pub mod PackedLaw
 pub mod TargetSteps
+pub mod PlacedSteps
 pub mod ReadBack
 pub mod TextBack
 pub mod FileBack

@@ -4,6 +4,7 @@ pub mod Reading
 pub mod GraphFile
 pub mod Json
 pub mod Targets
+pub mod Placed
 pub mod Sending
 pub mod Entries
 pub mod Ranged

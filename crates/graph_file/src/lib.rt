@@ -3,6 +3,7 @@
 
 mod entries;
 pub mod laws;
+mod placed;
 mod ranges;
 mod reading;
 mod targets;
@@ -10,6 +11,7 @@ mod targets;
 mod tests;
 mod writing;
 
+pub use placed::PlacedTargets;
 pub use reading::{from_bytes, from_value};
 pub use targets::GraphTargets;
 pub use writing::{to_text, to_value};

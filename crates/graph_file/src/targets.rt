@@ -26,7 +26,7 @@ impl Targets for GraphTargets<'_> {
 }
 
 // A weight is 1 to 15.
-fn is_weighable(click: Click) -> bool
+pub fn is_weighable(click: Click) -> bool
     ensures { result ≡ is_weighable click }
 {
     match click {

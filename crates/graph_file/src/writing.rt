@@ -257,7 +257,7 @@ fn count_of(keys: &[NodeKey]) -> usize
 }
 
 // So many keys are enough for the nodes of the graph.
-fn count_keys(graph: &Graph) -> Result<usize, NoMemory>
+pub fn count_keys(graph: &Graph) -> Result<usize, NoMemory>
     ensures past { IfOk result (λ count. (key : ℕ) → count ≤ key → node_at graph.now.nodes key ≡ None) }
     ensures few { IfOk result (λ count. count ≤ 2 ^ 32) }
 {

@@ -19,7 +19,7 @@ use crate::form::{Command, Form, form_of, word};
 use crate::status::{Status, status_of};
 use build::Build;
 use graph::Graph;
-use graph_file::{GraphTargets, from_bytes};
+use graph_file::{PlacedTargets, from_bytes};
 use player::PlayRefusal;
 use report::{Fault, LineBuf, push_fault};
 use rp_io::{Inputs, ReadRefusal, Sink, WriteFault, put_all, read_whole};
@@ -188,10 +188,11 @@ fn accepted_graph<I: Inputs>(
         Err(ReadRefusal::TooLong) => return Err(Fault::ScriptTooLong),
         Err(ReadRefusal::NoMemory) => return Err(Fault::Memory),
     };
-    let targets = GraphTargets { graph: &graph };
-    let read = read_script_on(alloc, &text, &targets);
-    let GraphTargets { graph: _ } = targets;
-    match read {
+    let targets = match PlacedTargets::new(alloc, &graph) {
+        Ok(targets) => targets,
+        Err(_) => return Err(Fault::Memory),
+    };
+    match read_script_on(alloc, &text, &targets) {
         Ok(script) => Ok((graph, script)),
         Err(refusal) => Err(Fault::Script { refusal }),
     }
