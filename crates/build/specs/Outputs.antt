@@ -1,8 +1,8 @@
 -- What a view shows of a build, and where its components stand.
-use Rattle.std.specs.Prelude.{Bool, true, false, if◌then◌else◌, List, filter, Option, Some, None}
+use Rattle.std.specs.Prelude.{Bool, true, false, if◌then◌else◌, List, filter, Option, Some, None, is_some}
 use Rattle.std.specs.List.{filter_map}
 use Rattle.block_table.specs.declared.Block.{Block}
-use Rattle.block_table.specs.declared.Block.TheVariants.{Wire, Torch, WallTorch, Repeater, Comparator, Lever, Button, Plate, RedstoneBlock, Lamp, Trapdoor, Weighted, Note}
+use Rattle.block_table.specs.declared.Block.TheVariants.{Air, Inert, Slab, Wire, Torch, WallTorch, Repeater, Comparator, Lever, Button, Plate, RedstoneBlock, Lamp, Trapdoor, Container, Composter, Cauldron, Cake, Weighted, Note}
 use Rattle.circuit.specs.declared.Pos.{Pos}
 use Rattle.build.specs.declared.OutKind.{OutKind}
 use Rattle.build.specs.declared.OutKind.TheVariants.{Lamp as LampOut, Trapdoor as TrapdoorOut, Note as NoteOut, Wire as WireOut}
@@ -23,7 +23,14 @@ is_component (Lamp lit) = true
 is_component (Trapdoor facing top powered) = true
 is_component (Note powered) = true
 is_component RedstoneBlock = true
-is_component _ = false
+is_component Air = false
+is_component (Inert name) = false
+is_component (Slab name half) = false
+is_component (Wire north east south west power) = false
+is_component (Container name) = false
+is_component (Composter level) = false
+is_component (Cauldron water level) = false
+is_component (Cake bites) = false
 
 -- the places of the components, in order
 unfoldable pub components : Plan → List Pos
@@ -35,7 +42,26 @@ out_kind marked (Lamp lit) = Some LampOut
 out_kind marked (Trapdoor facing top powered) = Some TrapdoorOut
 out_kind marked (Note powered) = Some NoteOut
 out_kind marked (Wire north east south west power) = if marked then Some WireOut else None
-out_kind marked _ = None
+out_kind marked Air = None
+out_kind marked (Inert name) = None
+out_kind marked (Slab name half) = None
+out_kind marked (Torch lit) = None
+out_kind marked (WallTorch facing lit) = None
+out_kind marked (Repeater delay facing powered) = None
+out_kind marked (Comparator facing subtract) = None
+out_kind marked (Lever face facing powered) = None
+out_kind marked (Button name face facing powered) = None
+out_kind marked (Plate name powered) = None
+out_kind marked RedstoneBlock = None
+out_kind marked (Container name) = None
+out_kind marked (Composter level) = None
+out_kind marked (Cauldron water level) = None
+out_kind marked (Cake bites) = None
+out_kind marked (Weighted name power) = None
+
+-- what is shown where it is marked
+abbrev pub may_be_shown : Block → Bool
+may_be_shown block = is_some (out_kind true block)
 
 abbrev pub out_place : Pos → Option OutKind → Option OutPlace
 out_place p None = None

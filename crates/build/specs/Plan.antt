@@ -2,7 +2,7 @@
 use Rattle.std.specs.Prelude.{◌≡◌, ◌<◌, ◌≤◌, ◌≤ℤ◌, neg_ℤ, ℕ, ◌+◌, ◌-◌, ◌*◌, ◌/◌, ◌%◌, Bool, true, false, not, ◌&&◌, ◌||◌, ◌==◌, nat_lt, nat_le, if◌then◌else◌, ℤ, pos, negsuc, List, [], ◌∷◌, map, length, slice_index_or, Option, Some, None}
 use Rattle.std.specs.List.{range_with_len, list_any, list_all}
 use Rattle.block_table.specs.declared.Block.{Block}
-use Rattle.block_table.specs.declared.Block.TheVariants.{Air, Torch, WallTorch, Repeater, Comparator, Button, Lamp, Container, Composter, Cauldron, Cake}
+use Rattle.block_table.specs.declared.Block.TheVariants.{Air, Inert, Slab, Wire, Torch, WallTorch, Repeater, Comparator, Lever, Button, Plate, RedstoneBlock, Lamp, Trapdoor, Container, Composter, Cauldron, Cake, Weighted, Note}
 use Rattle.block_table.specs.Facts.{is_solid}
 use Rattle.block_table.specs.WrittenText.{is_listed}
 use Rattle.circuit.specs.declared.Pos.{Pos}
@@ -63,7 +63,25 @@ solid_at b p = is_solid (block_at b p)
 -- what a comparator at the place gives as it was stored, 0 where none stands
 abbrev pub output_of : Block → ℕ → ℕ
 output_of (Comparator facing subtract) level = level
-output_of _ level = 0
+output_of Air level = 0
+output_of (Inert name) level = 0
+output_of (Slab name half) level = 0
+output_of (Wire north east south west power) level = 0
+output_of (Torch lit) level = 0
+output_of (WallTorch facing lit) level = 0
+output_of (Repeater delay facing powered) level = 0
+output_of (Lever face facing powered) level = 0
+output_of (Button name face facing powered) level = 0
+output_of (Plate name powered) level = 0
+output_of RedstoneBlock level = 0
+output_of (Lamp lit) level = 0
+output_of (Trapdoor facing top powered) level = 0
+output_of (Container name) level = 0
+output_of (Composter filled) level = 0
+output_of (Cauldron water filled) level = 0
+output_of (Cake bites) level = 0
+output_of (Weighted name power) level = 0
+output_of (Note powered) level = 0
 
 abbrev pub output_at : Plan → Pos → ℕ
 output_at b p = output_of (block_at b p) (entry b b.levels 0 p)
@@ -74,7 +92,22 @@ strength_of (Container name) level = Some level
 strength_of (Composter filled) level = Some filled
 strength_of (Cauldron water filled) level = Some filled
 strength_of (Cake bites) level = Some (14 - 2 * bites)
-strength_of _ level = None
+strength_of Air level = None
+strength_of (Inert name) level = None
+strength_of (Slab name half) level = None
+strength_of (Wire north east south west power) level = None
+strength_of (Torch lit) level = None
+strength_of (WallTorch facing lit) level = None
+strength_of (Repeater delay facing powered) level = None
+strength_of (Comparator facing subtract) level = None
+strength_of (Lever face facing powered) level = None
+strength_of (Button name face facing powered) level = None
+strength_of (Plate name powered) level = None
+strength_of RedstoneBlock level = None
+strength_of (Lamp lit) level = None
+strength_of (Trapdoor facing top powered) level = None
+strength_of (Weighted name power) level = None
+strength_of (Note powered) level = None
 
 abbrev pub strength_at : Plan → Pos → Option ℕ
 strength_at b p = strength_of (block_at b p) (entry b b.levels 0 p)
@@ -83,7 +116,24 @@ strength_at b p = strength_of (block_at b p) (entry b b.levels 0 p)
 abbrev pub has_level : Block → Bool
 has_level (Comparator facing subtract) = true
 has_level (Container name) = true
-has_level _ = false
+has_level Air = false
+has_level (Inert name) = false
+has_level (Slab name half) = false
+has_level (Wire north east south west power) = false
+has_level (Torch lit) = false
+has_level (WallTorch facing lit) = false
+has_level (Repeater delay facing powered) = false
+has_level (Lever face facing powered) = false
+has_level (Button name face facing powered) = false
+has_level (Plate name powered) = false
+has_level RedstoneBlock = false
+has_level (Lamp lit) = false
+has_level (Trapdoor facing top powered) = false
+has_level (Composter filled) = false
+has_level (Cauldron water filled) = false
+has_level (Cake bites) = false
+has_level (Weighted name power) = false
+has_level (Note powered) = false
 
 -- a level is at most 15, and 0 where the block has none
 abbrev pub level_fits : Block → ℕ → Bool
@@ -97,7 +147,20 @@ is_ticking (Repeater delay facing powered) = true
 is_ticking (Comparator facing subtract) = true
 is_ticking (Lamp lit) = true
 is_ticking (Button name face facing powered) = true
-is_ticking _ = false
+is_ticking Air = false
+is_ticking (Inert name) = false
+is_ticking (Slab name half) = false
+is_ticking (Wire north east south west power) = false
+is_ticking (Lever face facing powered) = false
+is_ticking (Plate name powered) = false
+is_ticking RedstoneBlock = false
+is_ticking (Trapdoor facing top powered) = false
+is_ticking (Container name) = false
+is_ticking (Composter filled) = false
+is_ticking (Cauldron water filled) = false
+is_ticking (Cake bites) = false
+is_ticking (Weighted name power) = false
+is_ticking (Note powered) = false
 
 -- due in 1 to 15 ticks, with a priority of 0 to 3
 abbrev pub is_timely : Pending → Bool

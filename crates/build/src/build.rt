@@ -12,6 +12,7 @@ ghost use Rattle.build.specs.Edits.{fresh, all_air, is_comparator, is_container,
 use crate::{NewRefusal, Pending, PendingRefusal};
 use block_table::Block;
 use circuit::Pos;
+use packed_block::PackedBlock;
 use rp_text::NoMemory;
 use std::alloc::Global;
 use std::marker::Model;
@@ -28,7 +29,7 @@ pub struct Build {
     width: u16,
     height: u16,
     length: u16,
-    blocks: Vec<Block>,
+    blocks: Vec<PackedBlock>,
     // One for each cell, or none as long as no level was ever set.
     levels: Vec<u8>,
     pending: Vec<Pending>,
@@ -73,7 +74,20 @@ pub fn is_ticking(block: Block) -> bool
         | Block::Comparator { .. }
         | Block::Lamp { .. }
         | Block::Button { .. } => true,
-        _ => false,
+        Block::Air
+        | Block::Inert { .. }
+        | Block::Slab { .. }
+        | Block::Wire { .. }
+        | Block::Lever { .. }
+        | Block::Plate { .. }
+        | Block::RedstoneBlock
+        | Block::Trapdoor { .. }
+        | Block::Container { .. }
+        | Block::Composter { .. }
+        | Block::Cauldron { .. }
+        | Block::Cake { .. }
+        | Block::Weighted { .. }
+        | Block::Note { .. } => false,
     }
 }
 
@@ -94,7 +108,14 @@ fn is_component(block: Block) -> bool
         | Block::Trapdoor { .. }
         | Block::Note { .. }
         | Block::RedstoneBlock => true,
-        _ => false,
+        Block::Air
+        | Block::Inert { .. }
+        | Block::Slab { .. }
+        | Block::Wire { .. }
+        | Block::Container { .. }
+        | Block::Composter { .. }
+        | Block::Cauldron { .. }
+        | Block::Cake { .. } => false,
     }
 }
 
@@ -162,7 +183,7 @@ impl Build {
         if cells > MOST_CELLS {
             return Err(NewRefusal::Volume);
         }
-        match vec![in alloc; Block::Air; cells] {
+        match vec![in alloc; PackedBlock::new(Block::Air); cells] {
             Ok(blocks) => Ok(Build::of_blocks(width, height, length, data_version, blocks)),
             Err(_) => Err(NewRefusal::NoMemory),
         }
@@ -174,7 +195,7 @@ impl Build {
         height: u16,
         length: u16,
         data_version: i32,
-        blocks: Vec<Block>,
+        blocks: Vec<PackedBlock>,
     ) -> Build
         requires cells { vec_len blocks ≡ width * (length * height) }
         requires small { width * (length * height) ≤ 16777216 }
@@ -286,13 +307,22 @@ impl Build {
         self.cell(pos).is_some()
     }
 
+    /// The block in a cell.
+    pub fn block_in(&self, cell: usize) -> Block
+        requires inside { cell < volume self.now }
+        ensures value { result ≡ block_at self.now (place_of self.now cell) }
+        ensures listed { IsTrue (is_listed result) }
+    {
+        self.blocks[cell].block()
+    }
+
     /// The block at a place: air outside of the box.
     pub fn at(&self, pos: Pos) -> Block
         ensures value { result ≡ block_at self.now pos }
         ensures listed { IsTrue (is_listed result) }
     {
         match self.cell(pos) {
-            Some(cell) => self.blocks[cell],
+            Some(cell) => self.blocks[cell].block(),
             None => Block::Air,
         }
     }
@@ -349,7 +379,7 @@ impl Build {
         ensures { self.new ≡ with_block self.old pos block }
     {
         let cell = self.cell(pos).unwrap();
-        self.blocks[cell] = block;
+        self.blocks[cell] = PackedBlock::new(block);
         clear(&mut self.levels, cell);
         forget(&mut self.pending, pos);
     }
@@ -419,9 +449,8 @@ impl Build {
     {
         let mut places = Vec::new(*self.blocks.allocator());
         for cell in 0..self.cells() {
-            let pos = self.place(cell);
-            if is_component(self.at(pos)) {
-                places.push(pos)?;
+            if is_component(self.block_in(cell)) {
+                places.push(self.place(cell))?;
             }
         }
         Ok(places)

@@ -1,7 +1,8 @@
 //! What a view shows of a build.
 
-ghost use Rattle.std.specs.Prelude.{◌≡◌, IfOk};
-ghost use Rattle.build.specs.Outputs.{out_kind, shown_at, outputs};
+ghost use Rattle.std.specs.Prelude.{◌≡◌, ◌<◌, IfOk};
+ghost use Rattle.build.specs.Plan.{volume, place_of};
+ghost use Rattle.build.specs.Outputs.{out_kind, may_be_shown, shown_at, outputs};
 ghost use Rattle.build.specs.Marks.{is_marked};
 
 use crate::build::Build;
@@ -20,16 +21,68 @@ fn out_kind(marks: &Marks, pos: Pos, block: Block) -> Option<OutKind>
         Block::Lamp { .. } => Some(OutKind::Lamp),
         Block::Trapdoor { .. } => Some(OutKind::Trapdoor),
         Block::Note { .. } => Some(OutKind::Note),
-        Block::Wire { .. } if marks.contains(pos) => Some(OutKind::Wire),
-        _ => None,
+        Block::Wire { .. } =>
+            if marks.contains(pos) {
+                Some(OutKind::Wire)
+            } else {
+                None
+            },
+        Block::Air
+        | Block::Inert { .. }
+        | Block::Slab { .. }
+        | Block::Torch { .. }
+        | Block::WallTorch { .. }
+        | Block::Repeater { .. }
+        | Block::Comparator { .. }
+        | Block::Lever { .. }
+        | Block::Button { .. }
+        | Block::Plate { .. }
+        | Block::RedstoneBlock
+        | Block::Container { .. }
+        | Block::Composter { .. }
+        | Block::Cauldron { .. }
+        | Block::Cake { .. }
+        | Block::Weighted { .. } => None,
     }
 }
 
-/// What a view shows of a place, if it shows it.
-fn shown_at(build: &Build, marks: &Marks, pos: Pos) -> Option<OutPlace>
-    ensures { result ≡ shown_at build.now marks.now pos }
+/// Whether a view may show a block.
+fn may_be_shown(block: Block) -> bool
+    ensures { result ≡ may_be_shown block }
 {
-    let kind = out_kind(marks, pos, build.at(pos))?;
+    match block {
+        Block::Lamp { .. } | Block::Trapdoor { .. } | Block::Note { .. } | Block::Wire { .. } =>
+            true,
+        Block::Air
+        | Block::Inert { .. }
+        | Block::Slab { .. }
+        | Block::Torch { .. }
+        | Block::WallTorch { .. }
+        | Block::Repeater { .. }
+        | Block::Comparator { .. }
+        | Block::Lever { .. }
+        | Block::Button { .. }
+        | Block::Plate { .. }
+        | Block::RedstoneBlock
+        | Block::Container { .. }
+        | Block::Composter { .. }
+        | Block::Cauldron { .. }
+        | Block::Cake { .. }
+        | Block::Weighted { .. } => false,
+    }
+}
+
+/// What a view shows of a cell, if it shows it.
+fn shown_in(build: &Build, marks: &Marks, cell: usize) -> Option<OutPlace>
+    requires { cell < volume build.now }
+    ensures { result ≡ shown_at build.now marks.now (place_of build.now cell) }
+{
+    let block = build.block_in(cell);
+    if !may_be_shown(block) {
+        return None;
+    }
+    let pos = build.place(cell);
+    let kind = out_kind(marks, pos, block)?;
     Some(OutPlace { pos, kind })
 }
 
@@ -39,7 +92,7 @@ pub fn outputs(alloc: Global, build: &Build, marks: &Marks) -> Result<Vec<OutPla
 {
     let mut places = Vec::new(alloc);
     for cell in 0..build.cells() {
-        if let Some(place) = shown_at(build, marks, build.place(cell)) {
+        if let Some(place) = shown_in(build, marks, cell) {
             places.push(place)?;
         }
     }

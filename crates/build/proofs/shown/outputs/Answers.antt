@@ -12,13 +12,13 @@ loop-cell-preserved c =
     let shown = shown_at b c.args.marks.now in
     let inside : c.loop-cell.cell < volume b = omega (arith, c.cells-cell-end.ensures.count) in
     let next : List OutPlace → Type 0 = λ found. FoundBelow shown b found (c.loop-cell.cell + 1) in
-    elim c.match-shown_at.branch [
+    elim c.match-shown_in.branch [
       | in-Some+in_ok-push w ↦
           subst next (sym (ap (λ (v : Vec OutPlace Global). v.items) w.places-is ∙ w.in_ok-push.ensures.items))
-          (found_one_more shown b c.loop-cell.cell c.loop-cell.places.items w.in-Some.place inside (ap shown (sym c.place.ensures) ∙ sym w.in-Some.ensures) c.loop-cell.invariant)
+          (found_one_more shown b c.loop-cell.cell c.loop-cell.places.items w.in-Some.place inside (sym w.in-Some.ensures) c.loop-cell.invariant)
       | in_default w ↦
           subst next (sym (ap (λ (v : Vec OutPlace Global). v.items) w.places-is))
-          (found_no_more shown b c.loop-cell.cell c.loop-cell.places.items inside (ap shown (sym c.place.ensures) ∙ sym w.in_default.ensures) c.loop-cell.invariant)
+          (found_no_more shown b c.loop-cell.cell c.loop-cell.places.items inside (sym w.in_default.ensures) c.loop-cell.invariant)
     ]
 
 pub returns : goal.returns

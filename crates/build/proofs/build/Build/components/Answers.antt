@@ -12,10 +12,10 @@ loop-cell-preserved c =
     let test : Pos → Bool = λ p. is_component (block_at b p) in
     let inside : c.loop-cell.cell < volume b = omega (arith, c.cells-cell-end.ensures.count) in
     let next : List Pos → Type 0 = λ kept. KeptBelow test b kept (c.loop-cell.cell + 1) in
-    let tested : c.is_component.result ≡ test (place_of b c.loop-cell.cell) = c.is_component.ensures ∙ ap is_component c.at.ensures.value ∙ ap test c.place-pos.ensures in
+    let tested : c.is_component.result ≡ test (place_of b c.loop-cell.cell) = c.is_component.ensures ∙ ap is_component c.block_in.ensures.value in
     elim c.if-is_component.branch [
       | then-is_component+in_ok-push w ↦
-          subst next (sym (ap (λ (v : Vec Pos Global). v.items) w.places-is ∙ w.in_ok-push.ensures.items ∙ ap (λ (p : Pos). c.loop-cell.places.items ++ p ∷ []) c.place-pos.ensures))
+          subst next (sym (ap (λ (v : Vec Pos Global). v.items) w.places-is ∙ w.in_ok-push.ensures.items ∙ ap (λ (p : Pos). c.loop-cell.places.items ++ p ∷ []) w.place.ensures))
           (kept_one_more test b c.loop-cell.cell c.loop-cell.places.items inside (sym tested ∙ w.if-is_component.true) c.loop-cell.invariant)
       | else-is_component w ↦
           subst next (sym (ap (λ (v : Vec Pos Global). v.items) w.places-is))
