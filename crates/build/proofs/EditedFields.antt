@@ -17,7 +17,7 @@ abbrev pub with_fields : Inside → List Block → List ℕ → List Pending →
 with_fields a blocks levels ticks = plan_of a.width a.height a.length a.data_version blocks levels ticks
 
 abbrev pub meant : Inside → Plan
-meant a = with_fields a a.blocks.items a.levels.items a.pending.items
+meant a = with_fields a a.blocks.items a.levels.items a.pending
 
 abbrev pub with_ticks : Inside → List Pending → Plan
 with_ticks a ticks = with_fields a a.blocks.items a.levels.items ticks
@@ -30,7 +30,7 @@ same_cell : (b now : Plan) (p : Pos) (cell : ℕ) → b ≡ now → Some cell �
 same_cell b now p cell is found = found-cell_of b p cell (found ∙ ap (λ (c : Plan). found_cell c p) (sym is))
 
 pub block_fields : (a : Inside) (levels : List ℕ) (ticks : List Pending) (now : Plan) (p : Pos) (cell : ℕ) (block : Block) →
-    meant a ≡ now → Some cell ≡ found_cell now p → levels ≡ set a.levels.items cell 0 → ticks ≡ pending_elsewhere p a.pending.items →
+    meant a ≡ now → Some cell ≡ found_cell now p → levels ≡ set a.levels.items cell 0 → ticks ≡ pending_elsewhere p a.pending →
     with_fields a (set a.blocks.items cell block) levels ticks ≡ with_block now p block
 unfolding with_block
 block_fields a levels ticks now p cell block is found cleared forgotten =
@@ -44,7 +44,7 @@ block_fields a levels ticks now p cell block is found cleared forgotten =
 pub level_fields : (a : Inside) (levels : List ℕ) (now : Plan) (p : Pos) (cell level cells : ℕ) →
     meant a ≡ now → Some cell ≡ found_cell now p → length (levels_of (cells_of a) a.levels.items) ≡ cells_of a → cells ≡ cells_of a →
     levels ≡ take cells a.levels.items ++ replicate (cells - length a.levels.items) 0 →
-    with_fields a a.blocks.items (set levels cell level) a.pending.items ≡ with_level now p level
+    with_fields a a.blocks.items (set levels cell level) a.pending ≡ with_level now p level
 unfolding with_level
 level_fields a levels now p cell level cells is found full count filled =
     let here : cell ≡ cell_of (meant a) p = same_cell (meant a) now p cell is found in
@@ -53,11 +53,11 @@ level_fields a levels now p cell level cells is found full count filled =
     let each : length (set levels cell level) ≡ cells_of a = length-set levels cell level ∙ ap (λ (xs : List ℕ). length xs) same ∙ full in
     let set_there : levels_of (cells_of a) (set levels cell level) ≡ set (levels_of (cells_of a) a.levels.items) (cell_of (meant a) p) level =
     levels_of-full (cells_of a) (set levels cell level) each ∙ ap (λ (xs : List ℕ). set xs cell level) same ∙ ap (λ (i : ℕ). set (levels_of (cells_of a) a.levels.items) i level) here in
-    let edited : with_fields a a.blocks.items (set levels cell level) a.pending.items ≡ with_level (meant a) p level =
-    λ i. record { width = a.width; height = a.height; depth = a.length; blocks = a.blocks.items; levels = set_there i; pending = a.pending.items; data_version = a.data_version } in
+    let edited : with_fields a a.blocks.items (set levels cell level) a.pending ≡ with_level (meant a) p level =
+    λ i. record { width = a.width; height = a.height; depth = a.length; blocks = a.blocks.items; levels = set_there i; pending = a.pending; data_version = a.data_version } in
     edited ∙ ap (λ (c : Plan). with_level c p level) is
 
-pub pending_fields : (a : Inside) (ticks : List Pending) (now : Plan) (tick : Pending) → meant a ≡ now → ticks ≡ a.pending.items ++ tick ∷ [] →
+pub pending_fields : (a : Inside) (ticks : List Pending) (now : Plan) (tick : Pending) → meant a ≡ now → ticks ≡ a.pending ++ tick ∷ [] →
     with_ticks a ticks ≡ with_pending now tick
 unfolding with_pending
 pending_fields a ticks now tick is more =

@@ -5,3 +5,4 @@ pub mod EditedFields
 pub mod LevelSteps
 pub mod FoundPlaces
 pub mod MarkOrder
+pub mod NotedTicks

@@ -36,7 +36,7 @@ waiting_still b c same (tick ∷ ticks) h =
     and_from (may_wait c tick) (list_all (may_wait c) ticks) (ap (λ (block : Block). is_ticking block && is_timely tick) (same tick.pos) ∙ parts.0) (waiting_still b c same ticks parts.1)
 
 -- what isn't pending isn't pending elsewhere
-not_pending_elsewhere : (p q : Pos) (ticks : List Pending) → is_pending ticks q ≡ false → is_pending (pending_elsewhere p ticks) q ≡ false
+pub not_pending_elsewhere : (p q : Pos) (ticks : List Pending) → is_pending ticks q ≡ false → is_pending (pending_elsewhere p ticks) q ≡ false
 not_pending_elsewhere p q [] h = refl
 not_pending_elsewhere p q (tick ∷ ticks) h =
     let parts = or_parts (same_place tick.pos q) (is_pending ticks q) h in

@@ -8,6 +8,7 @@ pub mod Edits
 pub mod Stored
 pub mod Marks
 pub mod MarkKeys
+pub mod Noted
 pub mod Outputs
 pub mod Roles
 pub use Rattle.block_table.specs.Facts

@@ -9,6 +9,7 @@ ghost use Rattle.build.specs.Coordinate.{placed};
 ghost use Rattle.build.specs.Outputs.{is_component};
 ghost use Rattle.build.specs.Edits.{fresh, all_air, is_comparator, is_container, pending_elsewhere};
 
+use crate::ticks::PendingTicks;
 use crate::{NewRefusal, Pending, PendingRefusal};
 use block_table::Block;
 use circuit::Pos;
@@ -32,7 +33,7 @@ pub struct Build {
     blocks: Vec<PackedBlock>,
     // One for each cell, or none as long as no level was ever set.
     levels: Vec<u8>,
-    pending: Vec<Pending>,
+    pending: PendingTicks,
     data_version: i32,
 }
 
@@ -42,9 +43,9 @@ impl Model for Build {
 
     ghost Value = { Plan };
 
-    ghost view = { λ a. plan_of a.width a.height a.length a.data_version a.blocks.items a.levels.items a.pending.items };
+    ghost view = { λ a. plan_of a.width a.height a.length a.data_version a.blocks.items a.levels.items a.pending };
 
-    ghost invariant = { λ a. IsWhole (plan_of a.width a.height a.length a.data_version a.blocks.items a.levels.items a.pending.items) };
+    ghost invariant = { λ a. IsWhole (plan_of a.width a.height a.length a.data_version a.blocks.items a.levels.items a.pending) };
 }
 
 /// A coordinate that is at least 0 and below a limit.
@@ -126,27 +127,6 @@ fn is_timely(tick: Pending) -> bool
     0 < tick.due && tick.due <= 15 && tick.priority <= 3
 }
 
-/// Whether a tick is pending at a place.
-fn is_at(tick: &Pending, pos: Pos) -> bool
-    ensures { result ≡ same_place tick.now.pos pos }
-{
-    tick.pos == pos
-}
-
-/// Whether some tick is pending at a place.
-fn is_pending(ticks: &[Pending], pos: Pos) -> bool
-    ensures { result ≡ is_pending ticks.now pos }
-{
-    ticks.iter().any(|tick| is_at(tick, pos))
-}
-
-/// Takes out the tick that is pending at a place.
-fn forget(ticks: &mut Vec<Pending>, pos: Pos)
-    ensures { ticks.new.items ≡ pending_elsewhere pos ticks.old.items }
-{
-    ticks.retain(|tick| !is_at(tick, pos));
-}
-
 /// The level of a cell, 0 where no levels are stored.
 fn stored_level(levels: &[u8], cell: usize) -> u8
     ensures { result ≡ slice_index levels.now cell }
@@ -209,7 +189,7 @@ impl Build {
             length,
             blocks,
             levels: Vec::new(alloc),
-            pending: Vec::new(alloc),
+            pending: PendingTicks::new(alloc),
             data_version,
         }
     }
@@ -221,7 +201,7 @@ impl Build {
         let alloc = *self.blocks.allocator();
         let blocks = Vec::from_slice(alloc, &self.blocks)?;
         let levels = Vec::from_slice(alloc, &self.levels)?;
-        let pending = Vec::from_slice(alloc, &self.pending)?;
+        let pending = self.pending.copy()?;
         Ok(Build {
             width: self.width,
             height: self.height,
@@ -369,7 +349,7 @@ impl Build {
         ensures waiting { IsTrue (list_all (may_wait self.now) self.now.pending) }
         ensures once { IsTrue (is_once self.now.pending) }
     {
-        &self.pending
+        self.pending.as_slice()
     }
 
     /// Puts a block at a place of the box. It takes the level and the pending tick there with it, and needs no memory.
@@ -381,7 +361,7 @@ impl Build {
         let cell = self.cell(pos).unwrap();
         self.blocks[cell] = PackedBlock::new(block);
         clear(&mut self.levels, cell);
-        forget(&mut self.pending, pos);
+        self.pending.forget(pos);
     }
 
     /// Sets the level at a place whose block has one.
@@ -433,7 +413,7 @@ impl Build {
         if !is_timely(tick) {
             return Err(PendingRefusal::Range);
         }
-        if is_pending(&self.pending, tick.pos) {
+        if self.pending.contains(tick.pos) {
             return Err(PendingRefusal::Twice);
         }
         match self.pending.push(tick) {

@@ -5,6 +5,7 @@ mod build;
 mod marks;
 mod shown;
 mod sides;
+mod ticks;
 
 pub use build::{Build, is_ticking};
 pub use circuit::{Click, Pos};

@@ -9,8 +9,8 @@ ghost use Rattle.generator.specs.UnitCells.{unit_block};
 ghost use Rattle.generator.specs.Made.{in_unit, units_of, made_build, act_if, place_at, use_at, unit_acts, made_script, with_acts};
 
 use crate::unit::unit_block;
-use block_table::Block;
 use build::{Build, Pos};
+use packed_block::PackedBlock;
 use rp_text::NoMemory;
 use script::{Act, Script};
 use std::alloc::Global;
@@ -48,7 +48,7 @@ fn make_build(alloc: Global, n: u16) -> Result<Build, NoMemory>
     Ok(build)
 }
 
-fn make_blocks(alloc: Global, n: usize) -> Result<Vec<Block>, NoMemory>
+fn make_blocks(alloc: Global, n: usize) -> Result<Vec<PackedBlock>, NoMemory>
     requires some { 1 ≤ n }
     requires few { n ≤ 4000 }
     ensures { IfOk result (λ blocks. blocks.items ≡ units_of unit_block n) }
@@ -60,14 +60,14 @@ fn make_blocks(alloc: Global, n: usize) -> Result<Vec<Block>, NoMemory>
     )
 }
 
-fn block_of_cell(n: usize, cell: usize) -> Block
+fn block_of_cell(n: usize, cell: usize) -> PackedBlock
     requires some { 1 ≤ n }
     requires few { n ≤ 4000 }
     ensures { result ≡ in_unit unit_block n cell }
 {
     let width = 4 * n;
     let row = cell / width;
-    unit_block(cell % width % 4, row / 10, row % 10)
+    PackedBlock::new(unit_block(cell % width % 4, row / 10, row % 10))
 }
 
 fn make_script(alloc: Global, n: u32) -> Result<Script, NoMemory>

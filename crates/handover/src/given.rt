@@ -11,6 +11,7 @@ use crate::held::Held;
 use crate::values::with_value;
 use block_table::Block;
 use build::{Build, Pending, PendingRefusal, Pos};
+use packed_block::PackedBlock;
 use rp_text::NoMemory;
 use std::alloc::Global;
 
@@ -21,8 +22,8 @@ pub fn with_blocks(alloc: Global, build: &Build, held: &[Option<Held>]) -> Resul
 {
     let mut blocks = Vec::new(alloc);
     for cell in 0..build.cells() {
-        let block = build.at(build.place(cell));
-        blocks.push(given_block(block, in_cell(held, cell)))?;
+        let block = given_block(build.block_in(cell), in_cell(held, cell));
+        blocks.push(PackedBlock::new(block))?;
     }
     Ok(Build::of_blocks(
         build.width(),

@@ -77,12 +77,13 @@ fn state_of(build: &Build, pos: Pos) -> u8
 
 // Whether a place has a node.
 #[tactic(auto, unfolding(graph::specs::RawNodes::has_node))]
-fn has_node(build: &Build, marks: &Marks, pos: Pos) -> bool
-    ensures { result ≡ has_node build.now marks.now pos }
+fn has_node(build: &Build, marks: &Marks, cell: usize) -> bool
+    requires { cell < volume build.now }
+    ensures { result ≡ has_node build.now marks.now (place_of build.now cell) }
 {
-    let block = build.at(pos);
+    let block = build.block_in(cell);
     match block {
-        Block::Wire { .. } => marks.contains(pos),
+        Block::Wire { .. } => marks.contains(build.place(cell)),
         Block::RedstoneBlock => true,
         _ => component(block, false).is_some(),
     }
@@ -201,8 +202,7 @@ pub fn find(alloc: Global, build: &Build, marks: &Marks) -> Result<Graph, NoMemo
     let ticks = ticks_by_cell(alloc, build)?;
     let mut graph = Graph::new(alloc);
     for cell in 0..build.cells() {
-        let pos = build.place(cell);
-        if has_node(build, marks, pos) {
+        if has_node(build, marks, cell) {
             graph.add_node(bare_node(alloc, build, marks, &ticks, cell))?;
         }
     }

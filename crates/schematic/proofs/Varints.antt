@@ -1,5 +1,5 @@
 -- Varints, one after another.
-use Rattle.std.proofs.Common.{◌≡◌, ◌≢◌, ℕ, suc, ◌+◌, ◌-◌, ◌^◌, ◌<◌, ◌≤◌, ℤ, pos, List, [], ◌∷◌, map, length, take, drop, Option, Some, None, Bool, true, false, refl, sym, ap, ◌∙◌, arith, inl, inr}
+use Rattle.std.proofs.Common.{◌≡◌, ◌≢◌, ℕ, suc, ◌+◌, ◌-◌, ◌*◌, ◌%◌, ◌^◌, ◌<◌, ◌≤◌, ℤ, pos, List, [], ◌∷◌, map, length, take, drop, Option, Some, None, Bool, true, false, refl, sym, ap, ◌∙◌, arith, inl, inr}
 use Rattle.std.specs.Prelude.{position, nat_lt, nat_le}
 use Rattle.std.specs.List.{position_or_len, onto_first}
 use Rattle.std.proofs.lemmas.List.{length-take-le}
@@ -97,6 +97,13 @@ first_ends cells end number h k v =
     let at : end + 1 ≡ suc end = omega arith in
     let value : number ≡ value_of (take (suc end) cells) = rw at at v in
     rw at (record { first = take (suc end) cells; cut = f.1.split; whole = rw (f.1.whole, short) refl; value = value; count = omega (arith, f.1.count, count) })
+
+-- the first varint is one byte
+pub one_byte : (cells behind : List ℕ) (byte number : ℕ) → cells ≡ byte ∷ behind → byte < 128 → number ≡ byte → IsFirst cells number behind
+one_byte cells behind byte number e h v =
+    let low : nat_lt byte 128 ≡ true = grind (arith, nat_tests) in
+    let same : number ≡ byte % 128 + 128 * 0 = omega arith in
+    rw e (record { first = byte ∷ []; cut = rw low refl; whole = rw low refl; value = same; count = omega arith })
 
 -- ---- over the cells of a build
 

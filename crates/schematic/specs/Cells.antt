@@ -1,6 +1,6 @@
 -- The cells of a file: a list of varints, each the number of a block.
 use Rattle.std.specs.Prelude.{◌≡◌, ℕ, zero, suc, ℤ, pos, ◌+◌, ◌*◌, ◌%◌, Bool, true, false, ◌&&◌, nat_lt, nat_le, if◌then◌else◌, List, [], ◌∷◌, map, length, Option, Some, None, is_some}
-use Rattle.std.specs.List.{onto_first}
+use Rattle.std.specs.List.{onto_first, range_with_len}
 use Rattle.block_table.specs.declared.Block.{Block}
 use Rattle.schematic.specs.Palette.{block_or_air}
 
@@ -43,6 +43,10 @@ cells_fault numbered n cells = fault_from numbered 0 n (varints cells)
 -- the block of each cell
 unfoldable pub blocks_of : (ℤ → Option Block) → List ℕ → List Block
 blocks_of numbered cells = map (λ varint. block_or_air (numbered (pos (value_of varint)))) (varints cells)
+
+-- the blocks of the numbers from 0 on
+abbrev pub first_blocks : (ℤ → Option Block) → ℕ → List (Option Block)
+first_blocks numbered n = map (λ (i : ℕ). numbered (pos i)) (range_with_len 0 n)
 
 -- The bytes begin with a whole varint of this number, and these come behind it.
 pub record IsFirst (cells : List ℕ) (number : ℕ) (behind : List ℕ) : Type 0 where

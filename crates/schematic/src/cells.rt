@@ -3,13 +3,13 @@
 ghost use Rattle.std.specs.Prelude.{◌≡◌, ◌<◌, ◌≤◌, ◌*◌, ◌^◌, ℕ, pos, Some, None, length, nat_lt, position, option_map, IfOk, IfErr, IfSome, IsNone};
 ghost use Rattle.indexmap.specs.IndexMap.{get};
 ghost use Rattle.std.specs.Ordering.{int_eq};
-ghost use Rattle.std.specs.Option.{option_copied};
-ghost use Rattle.schematic.specs.Cells.{value_of, varints, cells_fault, blocks_of, IsFirst, HasNoFirst};
+ghost use Rattle.schematic.specs.Cells.{value_of, first_blocks, varints, cells_fault, blocks_of, IsFirst, HasNoFirst};
 ghost use Rattle.schematic.specs.File.{wrong_cells, plain_refusal, IsCause};
 
 use crate::BuildRefusal;
 use crate::palette::Blocks;
-use block_table::Block;
+use packed_block::PackedBlock;
+use rp_text::NoMemory;
 use std::alloc::Global;
 
 /// The value of the bytes of a varint.
@@ -36,19 +36,25 @@ fn first_number(cells: &[u8]) -> Option<(u64, &[u8])>
     ensures some { IfSome result (λ r. IsFirst cells.now r.0 r.1.now) }
     ensures none { IsNone result → HasNoFirst (varints cells.now) }
 {
+    let (byte, behind) = cells.split_first()?;
+    if *byte < 128 {
+        Some((u64::from(*byte), behind))
+    } else {
+        first_long_number(cells)
+    }
+}
+
+/// The same, for a varint of any number of bytes.
+fn first_long_number(cells: &[u8]) -> Option<(u64, &[u8])>
+    ensures small { IfSome result (λ r. r.0 < 2 ^ 35) }
+    ensures some { IfSome result (λ r. IsFirst cells.now r.0 r.1.now) }
+    ensures none { IsNone result → HasNoFirst (varints cells.now) }
+{
     let end = place_of_end(cells)?;
     if end >= 5 {
         return None;
     }
     Some((value_of(&cells[..end + 1]), &cells[end + 1..]))
-}
-
-fn block_numbered(blocks: &Blocks, number: u64) -> Option<Block>
-    requires { number < 2 ^ 35 }
-    ensures { result ≡ get int_eq blocks.now (pos number) }
-{
-    let number = number as i64;
-    blocks.get(&number).copied()
 }
 
 fn wrong_cells(place: usize) -> BuildRefusal
@@ -60,14 +66,53 @@ fn wrong_cells(place: usize) -> BuildRefusal
     }
 }
 
-/// The blocks of so many cells. The refusal has the place of the first fault.
+/// The block of a number, which is looked up in the map.
+fn block_in(blocks: &Blocks, number: u64) -> Option<PackedBlock>
+    requires { number < 2 ^ 35 }
+    ensures { result ≡ get int_eq blocks.now (pos number) }
+{
+    let number = number as i64;
+    blocks.get(&number).copied()
+}
+
+/// The blocks of the numbers from 0 on, for as many numbers as the palette has.
+fn first_blocks(alloc: Global, blocks: &Blocks) -> Result<Vec<Option<PackedBlock>>, NoMemory>
+    ensures { IfOk result (λ first. first.items ≡ first_blocks (λ n. get int_eq blocks.now n) (length first.items)) }
+{
+    let count = u32::try_from(blocks.len()).unwrap_or(u32::MAX);
+    let mut first = Vec::with_capacity(alloc, count as usize)?;
+    for number in 0..count {
+        first.push(block_in(blocks, u64::from(number)))?;
+    }
+    Ok(first)
+}
+
+/// The block of a number.
+fn block_numbered(
+    blocks: &Blocks,
+    first: &[Option<PackedBlock>],
+    number: u64,
+) -> Option<PackedBlock>
+    requires small { number < 2 ^ 35 }
+    requires first { first.now ≡ first_blocks (λ n. get int_eq blocks.now n) (length first.now) }
+    ensures { result ≡ get int_eq blocks.now (pos number) }
+{
+    match first.get(number as usize) {
+        Some(block) => *block,
+        None => block_in(blocks, number),
+    }
+}
+
+/// The blocks of so many cells, where those of the first numbers are at hand.
 #[tactic(auto, unfolding(crate::specs::Cells::cells_fault, crate::specs::Cells::blocks_of))]
-pub fn blocks_of(
+fn blocks_with(
     alloc: Global,
     blocks: &Blocks,
+    first: &[Option<PackedBlock>],
     volume: usize,
     cells: &[u8],
-) -> Result<Vec<Block>, BuildRefusal>
+) -> Result<Vec<PackedBlock>, BuildRefusal>
+    requires first { first.now ≡ first_blocks (λ n. get int_eq blocks.now n) (length first.now) }
     ensures sound { IfOk result (λ built. cells_fault (λ n. get int_eq blocks.now n) volume cells.now ≡ None) }
     ensures blocks { IfOk result (λ built. built.items ≡ blocks_of (λ n. get int_eq blocks.now n) cells.now) }
     ensures count { IfOk result (λ built. length built.items ≡ volume) }
@@ -80,7 +125,7 @@ pub fn blocks_of(
         let Some((number, behind)) = first_number(rest) else {
             return Err(wrong_cells(cells.len() - rest.len()));
         };
-        let Some(block) = block_numbered(blocks, number) else {
+        let Some(block) = block_numbered(blocks, first, number) else {
             return Err(wrong_cells(cells.len() - rest.len()));
         };
         built.push(block)?;
@@ -91,4 +136,21 @@ pub fn blocks_of(
     } else {
         Err(wrong_cells(cells.len() - rest.len()))
     }
+}
+
+/// The blocks of so many cells. The refusal has the place of the first fault.
+pub fn blocks_of(
+    alloc: Global,
+    blocks: &Blocks,
+    volume: usize,
+    cells: &[u8],
+) -> Result<Vec<PackedBlock>, BuildRefusal>
+    ensures sound { IfOk result (λ built. cells_fault (λ n. get int_eq blocks.now n) volume cells.now ≡ None) }
+    ensures blocks { IfOk result (λ built. built.items ≡ blocks_of (λ n. get int_eq blocks.now n) cells.now) }
+    ensures count { IfOk result (λ built. length built.items ≡ volume) }
+    ensures err { IfErr result (λ e. IsCause (plain_refusal e)
+        (option_map wrong_cells (cells_fault (λ n. get int_eq blocks.now n) volume cells.now))) }
+{
+    let first = first_blocks(alloc, blocks)?;
+    blocks_with(alloc, blocks, &first, volume, cells)
 }

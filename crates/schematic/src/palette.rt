@@ -1,22 +1,24 @@
 //! The palette of a file: the block of each number.
 
-ghost use Rattle.std.specs.Prelude.{◌≡◌, ℤ, IfOk, IfSome, is_none};
+ghost use Rattle.std.specs.Prelude.{◌≡◌, ℤ, IfOk, IfSome, IsTrue, is_none};
 ghost use Rattle.indexmap.specs.IndexMap.{get};
 ghost use Rattle.std.specs.Ordering.{int_eq};
 ghost use Rattle.std.specs.Option.{option_copied};
 ghost use Rattle.nbt.specs.Plain.{plain_field};
 ghost use Rattle.block_table.specs.BlockText.{block_of};
+ghost use Rattle.block_table.specs.WrittenText.{is_listed};
 ghost use Rattle.schematic.specs.Palette.{number_of, clash, unknown_text, block_or_air, block_numbered};
 ghost use Rattle.schematic.specs.Code.{plain_entries};
 
 use block_table::{Block, parse_state};
 use indexmap::IndexMap;
 use nbt::{Field, Tree};
+use packed_block::PackedBlock;
 use rp_text::NoMemory;
 use std::alloc::Global;
 
 /// From numbers to blocks, in the order of the file.
-pub type Blocks = IndexMap<i64, Block>;
+pub type Blocks = IndexMap<i64, PackedBlock>;
 
 /// The number of an entry.
 fn number_of(entry: &Field) -> i64
@@ -28,10 +30,11 @@ fn number_of(entry: &Field) -> i64
     }
 }
 
-fn block_or_air(block: Option<Block>) -> Block
+fn block_or_air(block: Option<Block>) -> PackedBlock
+    requires { IfSome block (λ block. IsTrue (is_listed block)) }
     ensures { result ≡ block_or_air block }
 {
-    block.unwrap_or(Block::Air)
+    PackedBlock::new(block.unwrap_or(Block::Air))
 }
 
 /// The blocks by their numbers, or nothing where two entries have one number.

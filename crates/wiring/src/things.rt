@@ -55,9 +55,8 @@ fn number_cell(
     ensures { OnOk result (IsNumberedTo build.now (cell + 1) spots.new.items numbers.new.items) }
 {
     let _ = build.cells();
-    let pos = build.place(cell);
-    if is_thing(build.at(pos)) {
-        spots.push(pos)?;
+    if is_thing(build.block_in(cell)) {
+        spots.push(build.place(cell))?;
         numbers.push(spots.len() as u32)?;
     } else {
         numbers.push(0)?;

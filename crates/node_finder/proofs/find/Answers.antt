@@ -14,7 +14,7 @@ loop-cell-preserved c =
     let test = has_node b c.args.marks.now in
     let make = λ (p : Pos). Some (bare_node b c.args.marks.now p) in
     let inside : c.loop-cell.cell < volume b = omega (arith, c.cells-cell-end.ensures.count) in
-    let here = c.has_node.ensures ∙ ap test c.place-pos.ensures in
+    let here = c.has_node.ensures in
     let Next : Nodes → Type 0 = λ nodes. MadeBelow test make b nodes (c.loop-cell.cell + 1) in
     elim c.if-has_node.branch [
       | then-has_node+in_ok-add_node w ↦

@@ -1,6 +1,7 @@
 use Rattle.std.proofs.Common.{◌≡◌, ◌*◌, ℕ, List, Option, length, sym, ap, ◌∙◌, arith}
 use Rattle.std.proofs.lemmas.List.FromFn.{length-map-range_with_len}
 use Rattle.block_table.specs.declared.Block.{Block}
+use Rattle.block_table.specs.WrittenText.{is_listed}
 use Rattle.build.specs.Plan.{Plan, volume, block_at, place_of}
 use Rattle.handover.specs.declared.held.Held.{Held}
 use Rattle.handover.specs.GivenBack.{given_block}
@@ -13,12 +14,12 @@ loop-cell-preserved c =
     let b : Plan = c.args.build.now in
     let held : List (Option Held) = c.args.held.now in
     let i : ℕ = c.loop-cell.cell in
-    let block : c.at-block.result ≡ block_at b (place_of b i) = c.at-block.ensures.value ∙ ap (block_at b) c.place.ensures in
+    let block : c.block_in.result ≡ block_at b (place_of b i) = c.block_in.ensures.value in
     let given : c.in_cell.result ≡ in_cell held i = c.in_cell.ensures in
-    let here : c.given_block.result ≡ block_by b held i = c.given_block.ensures.value ∙ (λ j. given_block (given j) (block j)) in
+    let here : c.new.result ≡ block_by b held i = c.new.ensures ∙ c.given_block-block.ensures.value ∙ (λ j. given_block (given j) (block j)) in
     record {
-      items = c.in_ok-push.ensures.items ∙ blocks_more b held i c.loop-cell.blocks.items c.given_block.result c.loop-cell.invariant.items here;
-      listed = all_more c.loop-cell.blocks.items c.push.new.self.items c.given_block.result c.in_ok-push.ensures.items c.loop-cell.invariant.listed c.given_block.ensures.listed;
+      items = c.in_ok-push.ensures.items ∙ blocks_more b held i c.loop-cell.blocks.items c.new.result c.loop-cell.invariant.items here;
+      listed = all_more c.loop-cell.blocks.items c.push.new.self.items c.new.result c.in_ok-push.ensures.items c.loop-cell.invariant.listed (ap is_listed c.new.ensures ∙ c.given_block-block.ensures.listed);
     }
 
 pub of_blocks-requires-clause-cells : goal.of_blocks-requires-clause-cells

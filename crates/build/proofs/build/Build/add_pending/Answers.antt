@@ -15,15 +15,14 @@ invariant_of-self c = elim c.match-push.branch [
       let timely : is_timely c.args.tick ≡ true = sym c.is_timely.ensures ∙ c.if-not-is_timely.false in
       let apart : is_pending now.pending c.args.tick.pos ≡ false =
       sym (ap (λ (b : Plan). is_pending b.pending c.args.tick.pos) c.self.view_is)
-      ∙ sym (ap (λ (ticks : List Pending). is_pending ticks c.args.tick.pos) c.deref.ensures.value)
-      ∙ sym c.is_pending.ensures ∙ c.if-is_pending.false in
-      subst IsWhole (sym (pending_fields c.self.inside _ now c.args.tick c.self.view_is w.in-Ok.ensures.items))
+      ∙ sym c.contains.ensures ∙ c.if-contains.false in
+      subst IsWhole (sym (pending_fields c.self.inside _ now c.args.tick c.self.view_is w.in-Ok.ensures.ok))
       (whole_with_pending now c.args.tick (subst IsWhole c.self.view_is c.self.invariant) (and_from (is_ticking (block_at now c.args.tick.pos)) (is_timely c.args.tick) ticking timely) apart)
-  | in-Err w ↦ subst IsWhole (ap (with_ticks c.self.inside) (sym w.in-Err.ensures.items)) c.self.invariant
+  | in-Err w ↦ subst IsWhole (ap (with_ticks c.self.inside) (sym w.in-Err.ensures.err)) c.self.invariant
 ]
 
 pub returns-clause-ok : goal.returns-clause-ok
 returns-clause-ok c = elim c.match-push.branch [
-  | in-Ok w ↦ rw w.result-is (pending_fields c.self.inside _ c.args.self.now c.args.tick c.self.view_is w.in-Ok.ensures.items)
+  | in-Ok w ↦ rw w.result-is (pending_fields c.self.inside _ c.args.self.now c.args.tick c.self.view_is w.in-Ok.ensures.ok)
   | in-Err w ↦ rw w.result-is tt
 ]

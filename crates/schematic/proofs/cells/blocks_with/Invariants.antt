@@ -3,7 +3,7 @@ use Rattle.std.specs.Ordering.{int_eq}
 use Rattle.indexmap.specs.IndexMap.{get}
 use Rattle.schematic.specs.Palette.{block_or_air}
 use Rattle.schematic.specs.Cells.{varints, value_of, fault_from}
-use Rattle.schematic.proofs.cells.blocks_of.Given as goal
+use Rattle.schematic.proofs.cells.blocks_with.Given as goal
 
 abbrev pub invariant-loop : goal.invariant-loop
 invariant-loop l = record {

@@ -10,7 +10,7 @@ use Rattle.schematic.specs.Cells.{value_of, varints, fault_from, cells_fault}
 use Rattle.schematic.specs.File.{wrong_cells}
 use Rattle.schematic.proofs.Causes.{cause_is}
 use Rattle.schematic.proofs.Varints.{more_to_come, fault_here, fault_unknown, fault_next, fault_left, blocks_next}
-use Rattle.schematic.proofs.cells.blocks_of.Goals as goal
+use Rattle.schematic.proofs.cells.blocks_with.Goals as goal
 
 pub returns-in_default-clause-err : goal.returns-in_default-clause-err
 unfolding cells_fault
