@@ -9,29 +9,14 @@ use Rattle.build.specs.Place.{same_place, is_before}
 use Rattle.build.specs.SamePlace.{place_one, same_place_either}
 use Rattle.build.specs.Plan.{is_pending}
 use Rattle.build.specs.Marks.{is_marked, with_mark}
+use Rattle.build.specs.MarkLaws.{marked-with_mark}
 use Rattle.build.specs.Edits.{pending_elsewhere}
 use Rattle.build.specs.Noted.{AreNoted}
 use Rattle.build.proofs.WholeEdits.{not_pending_elsewhere}
 
 -- what isn't marked is neither the place that was marked last nor one from before
 unmarked : (q p : Pos) (marks : List Pos) → is_marked (with_mark q marks) p ≡ false → (same_place p q ≡ false) × (is_marked marks p ≡ false)
-unmarked q p [] h = ((or_parts (same_place p q) false h).0, refl)
-unmarked q p (r ∷ marks) h = elim (cases_Bool (is_before r q)) [
-  | inl e ↦
-      let there : (same_place p r || is_marked (with_mark q marks) p) ≡ false = rw e at h in
-      let parts = or_parts (same_place p r) (is_marked (with_mark q marks) p) there in
-      let behind = unmarked q p marks parts.1 in
-      (behind.0, or_from (same_place p r) (is_marked marks p) parts.0 behind.1)
-  | inr e ↦ elim (cases_Bool (same_place q r)) [
-    | inl f ↦
-        let there : (same_place p r || is_marked marks p) ≡ false = rw (e, f) at h in
-        let parts = or_parts (same_place p r) (is_marked marks p) there in
-        (ap (same_place p) (place_one q r f) ∙ parts.0, there)
-    | inr f ↦
-        let there : (same_place p q || (same_place p r || is_marked marks p)) ≡ false = rw (e, f) at h in
-        or_parts (same_place p q) (same_place p r || is_marked marks p) there
-  ]
-]
+unmarked q p marks h = or_parts (same_place p q) (is_marked marks p) (sym (marked-with_mark q p marks) ∙ h)
 
 pub noted_one_more : (tick : Pending) (ticks : List Pending) (places : List Pos) → AreNoted ticks places → AreNoted (ticks ++ tick ∷ []) (with_mark tick.pos places)
 noted_one_more tick ticks places noted p h =

@@ -7,6 +7,7 @@ pub mod Near
 pub mod Edits
 pub mod Stored
 pub mod Marks
+pub mod MarkLaws
 pub mod MarkKeys
 pub mod Noted
 pub mod Outputs

@@ -21,7 +21,8 @@ use Rattle.build.specs.SamePlace.{int_itself, int_one, place_one}
 use Rattle.schematic.specs.declared.entities.Entity.{Entity as CodeEntity}
 use Rattle.schematic.specs.Palette.{last_ones}
 use Rattle.schematic.specs.Entities.{Entity, same_entity_place, trees_in}
-use Rattle.schematic.specs.Code.{plain_entity, plain_entities, has_place}
+use Rattle.schematic.specs.Code.{plain_entity, plain_entities}
+use Rattle.build.specs.Marks.{is_marked}
 
 -- a stack holds 64, 16 or 1
 pub sized : (name : List ℕ) (count : ℕ) → IsSized (record { count = count; size = stack_size_of name })
@@ -34,35 +35,6 @@ sized name count = elim (cases_Bool (is_among (without_namespace name) stacked_b
   ]
 ]
 
-pub same_number : (a b : ℤ) → int_eq a b ≡ same_int a b
-same_number a b = elim (cases_Bool (int_eq a b)) [
-  | inl h ↦ h ∙ sym (ap (same_int a) (sym ((Decides-int_eq a b).0 h)) ∙ int_itself a)
-  | inr h ↦ elim (cases_Bool (same_int a b)) [
-    | inl k ↦ absurd (let yes = (Decides-int_eq a b).1 (int_one a b k) in cc)
-    | inr k ↦ h ∙ sym k
-  ]
-]
-
-pub any_alike : (E F : Pos → Bool) → ((q : Pos) → E q ≡ F q) → (places : List Pos) → list_any E places ≡ list_any F places
-any_alike E F h [] = refl
-any_alike E F h (p ∷ places) = rw (h p, any_alike E F h places) refl
-
-known : (old : List Pos) (q p : Pos) → same_place q p ≡ true → has_place old p ≡ true → has_place old q ≡ true
-known old q p e h = ap (has_place old) (place_one q p e) ∙ h
-
--- a place put among others, or known already
-pub put_place : (old new : List Pos) (p : Pos) (added : Bool) → added ≡ not (has_place old p) → MatchBool added (IsPermutation (p ∷ old) new) (new ≡ old) →
-    (q : Pos) → has_place new q ≡ (same_place q p || has_place old q)
-put_place old new p true e h q = sym (list_any-IsPermutation (same_place q) (p ∷ old) new h)
-put_place old new p false e h q = elim (cases_Bool (same_place q p)) [
-  | inl same ↦ rw (h, same) (known old q p same (double (has_place old p) e))
-  | inr differ ↦ rw (h, differ) refl
-]
-  where
-    double : (b : Bool) → false ≡ not b → b ≡ true
-    double true e = refl
-    double false e = absurd (cc)
-
 -- ---- those that count
 
 pub from_index : (es : List CodeEntity) (i : ℕ) (e : CodeEntity) → ◌<◌ 0 i → i ≤ length es → e ≡ slice_index_or es (i - 1) e → plain_entities (drop (i - 1) es) ≡ plain_entity e ∷ plain_entities (drop i es)
@@ -73,26 +45,26 @@ from_index es i e h l is =
 abbrev pub is_at : Pos → Entity → Bool
 is_at p e = same_place p e.pos
 
-pub counts : (e : Entity) (rest : List Entity) (places : List Pos) → has_place places e.pos ≡ list_any (is_at e.pos) rest → true ≡ not (has_place places e.pos) → last_ones same_entity_place (e ∷ rest) ≡ e ∷ last_ones same_entity_place rest
+pub counts : (e : Entity) (rest : List Entity) (places : List Pos) → is_marked places e.pos ≡ list_any (is_at e.pos) rest → true ≡ not (is_marked places e.pos) → last_ones same_entity_place (e ∷ rest) ≡ e ∷ last_ones same_entity_place rest
 counts e rest places h new =
-    let none : list_any (is_at e.pos) rest ≡ false = sym h ∙ opposite_of (has_place places e.pos) new in
+    let none : list_any (is_at e.pos) rest ≡ false = sym h ∙ opposite_of (is_marked places e.pos) new in
     rw none refl
   where
     opposite_of : (b : Bool) → true ≡ not b → b ≡ false
     opposite_of false e = refl
     opposite_of true e = absurd (cc)
 
-pub counts_not : (e : Entity) (rest : List Entity) (places : List Pos) → has_place places e.pos ≡ list_any (is_at e.pos) rest → false ≡ not (has_place places e.pos) → last_ones same_entity_place (e ∷ rest) ≡ last_ones same_entity_place rest
+pub counts_not : (e : Entity) (rest : List Entity) (places : List Pos) → is_marked places e.pos ≡ list_any (is_at e.pos) rest → false ≡ not (is_marked places e.pos) → last_ones same_entity_place (e ∷ rest) ≡ last_ones same_entity_place rest
 counts_not e rest places h old =
-    let some : list_any (is_at e.pos) rest ≡ true = sym h ∙ double (has_place places e.pos) old in
+    let some : list_any (is_at e.pos) rest ≡ true = sym h ∙ double (is_marked places e.pos) old in
     rw some refl
   where
     double : (b : Bool) → false ≡ not b → b ≡ true
     double true e = refl
     double false e = absurd (cc)
 
-pub known_more : (e : Entity) (rest : List Entity) (places more : List Pos) → ((q : Pos) → has_place places q ≡ list_any (is_at q) rest) → ((q : Pos) → has_place more q ≡ (same_place q e.pos || has_place places q)) →
-    (q : Pos) → has_place more q ≡ list_any (is_at q) (e ∷ rest)
+pub known_more : (e : Entity) (rest : List Entity) (places more : List Pos) → ((q : Pos) → is_marked places q ≡ list_any (is_at q) rest) → ((q : Pos) → is_marked more q ≡ (same_place q e.pos || is_marked places q)) →
+    (q : Pos) → is_marked more q ≡ list_any (is_at q) (e ∷ rest)
 known_more e rest places more h k q = k q ∙ ap (λ (b : Bool). same_place q e.pos || b) (h q)
 
 pub one_more : (e : CodeEntity) (es : List CodeEntity) (counted : List Entity) → reverse (plain_entities es) ≡ counted → reverse (plain_entities (es ++ e ∷ [])) ≡ plain_entity e ∷ counted

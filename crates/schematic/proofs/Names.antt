@@ -1,13 +1,16 @@
 -- Names that are known, and the fields that count.
 use Rattle.std.proofs.Common.{◌≡◌, ℕ, suc, ◌-◌, ◌<◌, ◌≤◌, List, [], ◌∷◌, ◌++◌, map, length, drop, reverse, Bool, true, false, refl, sym, ap, ◌∙◌, arith, inl, inr, Bor}
 use Rattle.std.specs.Prelude.{not, ◌||◌, slice_index_or}
-use Rattle.std.specs.Bool.{MatchBool}
 use Rattle.std.specs.List.{list_any}
-use Rattle.std.specs.List.Sorted.{IsPermutation}
 use Rattle.std.specs.Str.{bytes_eq}
-use Rattle.std.specs.Cmp.Lexicographic.{same_text}
+use Rattle.std.specs.Cmp.Lexicographic.{same_text, slice_cmp}
+use Rattle.std.specs.declared.cmp.Ordering.{Ordering}
+use Rattle.std.specs.declared.cmp.Ordering.TheVariants.{Less, Equal, Greater}
+use Rattle.std.specs.Ordering.{nat_cmp, is_eq}
+use Rattle.std.specs.BTreeMap.{is_at}
+use Rattle.std.specs.BTreeSet.{insert_key}
+use Rattle.std.proofs.lemmas.Map.Text.{is_eq-slice_cmp}
 use Rattle.std.proofs.lemmas.Bool.{cases_Bool}
-use Rattle.std.proofs.lemmas.List.Sorted.{list_any-IsPermutation}
 use Rattle.std.proofs.Math.Seq.{drop-cons}
 use Rattle.std.proofs.Math.ListN.{get_or}
 use Rattle.std.proofs.lemmas.List.{reverse-append, map-append}
@@ -17,21 +20,35 @@ use Rattle.nbt.specs.Plain.{PlainField, plain_field, fields_of}
 use Rattle.schematic.specs.Palette.{last_ones, same_name, pairs_of}
 use Rattle.schematic.specs.Code.{plain_entries, has_name}
 
-known : (old : List (Bor (List ℕ))) (q k : List ℕ) → bytes_eq q k ≡ true → has_name old k ≡ true → has_name old q ≡ true
-known old q k e h = ap (has_name old) (same_text q k (sym e)) ∙ h
+-- how names are compared
+abbrev pub name_cmp : Bor (List ℕ) → Bor (List ℕ) → Ordering
+name_cmp x y = slice_cmp nat_cmp x.now y.now
+
+-- a name is one of the keys where some key compares equal
+pub name_there : (keys : List (Bor (List ℕ))) (k : Bor (List ℕ)) → list_any (is_at (name_cmp k)) keys ≡ has_name keys k.now
+name_there [] k = refl
+name_there (x ∷ keys) k = rw (is_eq-slice_cmp k.now x.now, name_there keys k) refl
 
 -- a name put among others, or known already
-pub put_name : (old new : List (Bor (List ℕ))) (k : Bor (List ℕ)) (added : Bool) → added ≡ not (has_name old k.now) → MatchBool added (IsPermutation (k ∷ old) new) (new ≡ old) →
-    (q : List ℕ) → has_name new q ≡ (bytes_eq q k.now || has_name old q)
-put_name old new k true e h q = sym (list_any-IsPermutation (λ (x : Bor (List ℕ)). bytes_eq q x.now) (k ∷ old) new h)
-put_name old new k false e h q = elim (cases_Bool (bytes_eq q k.now)) [
-  | inl same ↦ rw (h, same) (known old q k.now same (double (has_name old k.now) e))
-  | inr differ ↦ rw (h, differ) refl
-]
+pub put_name : (keys : List (Bor (List ℕ))) (k : Bor (List ℕ)) (q : List ℕ) → has_name (insert_key name_cmp keys k) q ≡ (bytes_eq q k.now || has_name keys q)
+put_name [] k q = refl
+put_name (x ∷ keys) k q = by_order (put_name keys k q) (name_cmp k x) refl
   where
-    double : (b : Bool) → false ≡ not b → b ≡ true
-    double true e = refl
-    double false e = absurd (cc)
+    twice : (b c : Bool) → (b || c) ≡ (b || (b || c))
+    twice true c = refl
+    twice false c = refl
+
+    exchange : (a b c : Bool) → (a || (b || c)) ≡ (b || (a || c))
+    exchange true true c = refl
+    exchange true false c = refl
+    exchange false b c = refl
+
+    by_order : has_name (insert_key name_cmp keys k) q ≡ (bytes_eq q k.now || has_name keys q) → (order : Ordering) → name_cmp k x ≡ order → has_name (insert_key name_cmp (x ∷ keys) k) q ≡ (bytes_eq q k.now || has_name (x ∷ keys) q)
+    by_order rest Less e = rw e refl
+    by_order rest Equal e =
+        let one : k.now ≡ x.now = same_text k.now x.now (sym (sym (is_eq-slice_cmp k.now x.now) ∙ ap is_eq e)) in
+        rw (e, one) (twice (bytes_eq q x.now) (has_name keys q))
+    by_order rest Greater e = rw (e, rest) (exchange (bytes_eq q x.now) (bytes_eq q k.now) (has_name keys q))
 
 pub pairs-fields : (ps : List PlainField) → pairs_of (fields_of ps) ≡ ps
 pairs-fields [] = refl

@@ -6,8 +6,6 @@ use Rattle.std.specs.Option.{option_map}
 use Rattle.std.specs.Prelude.{Vec}
 use Rattle.std.specs.Borrow.{Bor}
 use Rattle.std.specs.declared.alloc.Global.{Global}
-use Rattle.circuit.specs.declared.Pos.{Pos}
-use Rattle.build.specs.Place.{same_place}
 use Rattle.schematic.specs.declared.entities.Entity.{Entity as CodeEntity}
 use Rattle.schematic.specs.Entities.{Entity}
 use Rattle.nbt.specs.declared.trees.Tree.{Tree}
@@ -35,7 +33,3 @@ plain_entity e = record { pos = e.pos; further = plain_held e.further }
 
 abbrev pub plain_entities : List CodeEntity → List Entity
 plain_entities es = map plain_entity es
-
--- the place is one of these
-abbrev pub has_place : List Pos → Pos → Bool
-has_place places p = list_any (same_place p) places

@@ -6,20 +6,20 @@ ghost use Rattle.circuit.specs.declared.Pos.{Pos};
 ghost use Rattle.nbt.specs.Plain.{plain_tree, plain_trees, plain_fields};
 ghost use Rattle.nbt.specs.Named.{last_named};
 ghost use Rattle.item_table.specs.Strength.{IsSized};
+ghost use Rattle.build.specs.Marks.{is_marked};
 ghost use Rattle.build.specs.Place.{same_place};
 ghost use Rattle.build.specs.Plan.{volume};
 ghost use Rattle.schematic.specs.Entities.{trees_in, items_in, place_in, entity_of, entities_of, counting, signal, is_level, level_in, text_in, amount_in, amount_of, item_with, item_of, items_of, is_wrong_signal, signal_fault, with_entity, with_all};
-ghost use Rattle.schematic.specs.Code.{plain_found, plain_held, plain_entity, plain_entities, has_place};
+ghost use Rattle.schematic.specs.Code.{plain_found, plain_held, plain_entity, plain_entities};
 
 use crate::BuildRefusal;
 use crate::fields::{fields_in, holder, int_in, is_third, named};
 use block_table::{Block, slots};
-use build::{Build, Pos};
+use build::{Build, Marks, Pos};
 use item_table::{ItemCount, stack_size, strength};
 use nbt::{Fields, Tree};
 use rp_text::NoMemory;
 use std::alloc::Global;
-use std::collections::HashSet;
 
 /// A block entity: its place, and its further data.
 #[derive(Clone, Copy)]
@@ -83,11 +83,13 @@ fn entities_of(alloc: Global, root: &Fields) -> Result<Vec<Entity<'_>>, NoMemory
 }
 
 /// Adds a place, and says whether it is new.
-fn add_place(places: &mut HashSet<Pos>, pos: Pos) -> Result<bool, NoMemory>
-    ensures added { IfOk result (λ added. added ≡ not (has_place places.old.keys pos)) }
-    ensures places { IfOk result (λ added. (q : Pos) → has_place places.new.keys q ≡ (same_place q pos || has_place places.old.keys q)) }
+fn add_place(places: &mut Marks, pos: Pos) -> Result<bool, NoMemory>
+    ensures added { IfOk result (λ added. added ≡ not (is_marked places.old pos)) }
+    ensures places { IfOk result (λ added. (q : Pos) → is_marked places.new q ≡ (same_place q pos || is_marked places.old q)) }
 {
-    Ok(places.insert(pos)?)
+    let known = places.contains(pos);
+    places.add(pos)?;
+    Ok(!known)
 }
 
 /// The block entities that count: of two at one place the last.
@@ -97,7 +99,7 @@ pub fn counting(alloc: Global, root: &Fields) -> Result<Vec<Entity<'_>>, NoMemor
 {
     let entities = entities_of(alloc, root)?;
     let mut counting = Vec::new(alloc);
-    let mut places = HashSet::new(alloc);
+    let mut places = Marks::new(alloc);
     let mut index = entities.len();
     while index > 0 {
         index -= 1;

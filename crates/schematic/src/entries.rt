@@ -10,10 +10,10 @@ ghost use Rattle.schematic.specs.Code.{plain_held, plain_entries, has_name};
 use nbt::{Field, Fields, Tree};
 use rp_text::NoMemory;
 use std::alloc::Global;
-use std::collections::HashSet;
+use std::collections::BTreeSet;
 
 /// Adds a name, and says whether it is new.
-fn add_name<'a>(names: &mut HashSet<&'a [u8]>, name: &'a [u8]) -> Result<bool, NoMemory>
+fn add_name<'a>(names: &mut BTreeSet<&'a [u8]>, name: &'a [u8]) -> Result<bool, NoMemory>
     ensures added { IfOk result (λ added. added ≡ not (has_name names.old.keys name.now)) }
     ensures names { IfOk result (λ added. (q : List ℕ) → has_name names.new.keys q ≡ (bytes_eq q name.now || has_name names.old.keys q)) }
 {
@@ -29,7 +29,7 @@ pub fn entries_of(alloc: Global, fields: Option<&Fields>) -> Result<Vec<&Field>,
     let Some(fields) = fields else {
         return Ok(entries);
     };
-    let mut names = HashSet::new(alloc);
+    let mut names = BTreeSet::new(alloc);
     let mut index = fields.len();
     while index > 0 {
         index -= 1;

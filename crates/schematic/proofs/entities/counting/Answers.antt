@@ -13,11 +13,11 @@ loop-index-preserved-in-Continue-branch-3 c =
     let some = c.loop-index-test.true in
     let e = c.index-entity.result.now in
     let rest : List Entity = plain_entities (drop i es) in
-    let places = c.loop-index.places.keys in
+    let places = c.loop-index.places in
     let from = from_index es i e (omega arith) inv.within c.index-entity.ensures in
     record {
       within = omega (arith, inv.within);
-      known = rw from (known_more (plain_entity e) rest places c.add_place.new.places.keys inv.known c.in_ok-add_place.ensures.places);
+      known = rw from (known_more (plain_entity e) rest places c.add_place.new.places inv.known c.in_ok-add_place.ensures.places);
       counted = rw (from, c.in_ok-push.ensures.items) (one_more e c.loop-index.counting.items (last_ones same_entity_place rest) inv.counted
           ∙ sym (counts (plain_entity e) rest places (inv.known e.pos) (sym c.if-branch.true ∙ c.in_ok-add_place.ensures.added)));
     }
@@ -30,11 +30,11 @@ loop-index-preserved c =
     let some = c.loop-index-test.true in
     let e = c.index-entity.result.now in
     let rest : List Entity = plain_entities (drop i es) in
-    let places = c.loop-index.places.keys in
+    let places = c.loop-index.places in
     let from = from_index es i e (omega arith) inv.within c.index-entity.ensures in
     record {
       within = omega (arith, inv.within);
-      known = rw from (known_more (plain_entity e) rest places c.add_place.new.places.keys inv.known c.in_ok-add_place.ensures.places);
+      known = rw from (known_more (plain_entity e) rest places c.add_place.new.places inv.known c.in_ok-add_place.ensures.places);
       counted = rw from (inv.counted ∙ sym (counts_not (plain_entity e) rest places (inv.known e.pos) (sym c.if-branch.false ∙ c.in_ok-add_place.ensures.added)));
     }
 
