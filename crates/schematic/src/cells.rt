@@ -1,8 +1,8 @@
 //! The cells of a file: varints, each the number of a block.
 
 ghost use Rattle.std.specs.Prelude.{◌≡◌, ◌<◌, ◌≤◌, ◌*◌, ◌^◌, ℕ, pos, Some, None, length, nat_lt, position, option_map, IfOk, IfErr, IfSome, IsNone};
-ghost use Rattle.indexmap.specs.IndexMap.{get};
-ghost use Rattle.std.specs.Ordering.{int_eq};
+ghost use Rattle.std.specs.BTreeMap.{get};
+ghost use Rattle.std.specs.Ordering.{int_cmp};
 ghost use Rattle.schematic.specs.Cells.{value_of, first_blocks, varints, cells_fault, blocks_of, IsFirst, HasNoFirst};
 ghost use Rattle.schematic.specs.File.{wrong_cells, plain_refusal, IsCause};
 
@@ -69,7 +69,7 @@ fn wrong_cells(place: usize) -> BuildRefusal
 /// The block of a number, which is looked up in the map.
 fn block_in(blocks: &Blocks, number: u64) -> Option<PackedBlock>
     requires { number < 2 ^ 35 }
-    ensures { result ≡ get int_eq blocks.now (pos number) }
+    ensures { result ≡ get int_cmp blocks.now (pos number) }
 {
     let number = number as i64;
     blocks.get(&number).copied()
@@ -77,7 +77,7 @@ fn block_in(blocks: &Blocks, number: u64) -> Option<PackedBlock>
 
 /// The blocks of the numbers from 0 on, for as many numbers as the palette has.
 fn first_blocks(alloc: Global, blocks: &Blocks) -> Result<Vec<Option<PackedBlock>>, NoMemory>
-    ensures { IfOk result (λ first. first.items ≡ first_blocks (λ n. get int_eq blocks.now n) (length first.items)) }
+    ensures { IfOk result (λ first. first.items ≡ first_blocks (λ n. get int_cmp blocks.now n) (length first.items)) }
 {
     let count = u32::try_from(blocks.len()).unwrap_or(u32::MAX);
     let mut first = Vec::with_capacity(alloc, count as usize)?;
@@ -94,8 +94,8 @@ fn block_numbered(
     number: u64,
 ) -> Option<PackedBlock>
     requires small { number < 2 ^ 35 }
-    requires first { first.now ≡ first_blocks (λ n. get int_eq blocks.now n) (length first.now) }
-    ensures { result ≡ get int_eq blocks.now (pos number) }
+    requires first { first.now ≡ first_blocks (λ n. get int_cmp blocks.now n) (length first.now) }
+    ensures { result ≡ get int_cmp blocks.now (pos number) }
 {
     match first.get(number as usize) {
         Some(block) => *block,
@@ -112,12 +112,12 @@ fn blocks_with(
     volume: usize,
     cells: &[u8],
 ) -> Result<Vec<PackedBlock>, BuildRefusal>
-    requires first { first.now ≡ first_blocks (λ n. get int_eq blocks.now n) (length first.now) }
-    ensures sound { IfOk result (λ built. cells_fault (λ n. get int_eq blocks.now n) volume cells.now ≡ None) }
-    ensures blocks { IfOk result (λ built. built.items ≡ blocks_of (λ n. get int_eq blocks.now n) cells.now) }
+    requires first { first.now ≡ first_blocks (λ n. get int_cmp blocks.now n) (length first.now) }
+    ensures sound { IfOk result (λ built. cells_fault (λ n. get int_cmp blocks.now n) volume cells.now ≡ None) }
+    ensures blocks { IfOk result (λ built. built.items ≡ blocks_of (λ n. get int_cmp blocks.now n) cells.now) }
     ensures count { IfOk result (λ built. length built.items ≡ volume) }
     ensures err { IfErr result (λ e. IsCause (plain_refusal e)
-        (option_map wrong_cells (cells_fault (λ n. get int_eq blocks.now n) volume cells.now))) }
+        (option_map wrong_cells (cells_fault (λ n. get int_cmp blocks.now n) volume cells.now))) }
 {
     let mut built = Vec::with_capacity(alloc, volume.min(cells.len()))?;
     let mut rest = cells;
@@ -145,11 +145,11 @@ pub fn blocks_of(
     volume: usize,
     cells: &[u8],
 ) -> Result<Vec<PackedBlock>, BuildRefusal>
-    ensures sound { IfOk result (λ built. cells_fault (λ n. get int_eq blocks.now n) volume cells.now ≡ None) }
-    ensures blocks { IfOk result (λ built. built.items ≡ blocks_of (λ n. get int_eq blocks.now n) cells.now) }
+    ensures sound { IfOk result (λ built. cells_fault (λ n. get int_cmp blocks.now n) volume cells.now ≡ None) }
+    ensures blocks { IfOk result (λ built. built.items ≡ blocks_of (λ n. get int_cmp blocks.now n) cells.now) }
     ensures count { IfOk result (λ built. length built.items ≡ volume) }
     ensures err { IfErr result (λ e. IsCause (plain_refusal e)
-        (option_map wrong_cells (cells_fault (λ n. get int_eq blocks.now n) volume cells.now))) }
+        (option_map wrong_cells (cells_fault (λ n. get int_cmp blocks.now n) volume cells.now))) }
 {
     let first = first_blocks(alloc, blocks)?;
     blocks_with(alloc, blocks, &first, volume, cells)

@@ -1,8 +1,8 @@
 //! The palette of a file: the block of each number.
 
 ghost use Rattle.std.specs.Prelude.{◌≡◌, ℤ, IfOk, IfSome, IsTrue, is_none};
-ghost use Rattle.indexmap.specs.IndexMap.{get};
-ghost use Rattle.std.specs.Ordering.{int_eq};
+ghost use Rattle.std.specs.BTreeMap.{get};
+ghost use Rattle.std.specs.Ordering.{int_cmp};
 ghost use Rattle.std.specs.Option.{option_copied};
 ghost use Rattle.nbt.specs.Plain.{plain_field};
 ghost use Rattle.block_table.specs.BlockText.{block_of};
@@ -11,14 +11,14 @@ ghost use Rattle.schematic.specs.Palette.{number_of, clash, unknown_text, block_
 ghost use Rattle.schematic.specs.Code.{plain_entries};
 
 use block_table::{Block, parse_state};
-use indexmap::IndexMap;
+use std::collections::BTreeMap;
 use nbt::{Field, Tree};
 use packed_block::PackedBlock;
 use rp_text::NoMemory;
 use std::alloc::Global;
 
-/// From numbers to blocks, in the order of the file.
-pub type Blocks = IndexMap<i64, PackedBlock>;
+/// From numbers to blocks.
+pub type Blocks = BTreeMap<i64, PackedBlock>;
 
 /// The number of an entry.
 fn number_of(entry: &Field) -> i64
@@ -41,9 +41,9 @@ fn block_or_air(block: Option<Block>) -> PackedBlock
 pub fn blocks_by_number(alloc: Global, entries: &[&Field]) -> Result<Option<Blocks>, NoMemory>
     ensures clash { IfOk result (λ blocks. clash (plain_entries entries.now) ≡ is_none blocks) }
     ensures blocks { IfOk result (λ found. IfSome found (λ blocks.
-        (n : ℤ) → get int_eq blocks n ≡ block_numbered (plain_entries entries.now) n)) }
+        (n : ℤ) → get int_cmp blocks n ≡ block_numbered (plain_entries entries.now) n)) }
 {
-    let mut blocks = IndexMap::new(alloc);
+    let mut blocks = BTreeMap::new(alloc);
     for entry in entries {
         let block = block_or_air(parse_state(&entry.name.items));
         let known = blocks.insert(number_of(entry), block)?;

@@ -2,8 +2,8 @@ use Rattle.std.proofs.Common.{◌≡◌, ◌≢◌, ◌+◌, ◌-◌, ◌++◌, 
 use Rattle.std.proofs.lemmas.Bool.Decides.{nat_tests}
 use Rattle.std.proofs.lemmas.List.{append_assoc, length-append}
 use Rattle.std.specs.Prelude.{option_map}
-use Rattle.std.specs.Ordering.{int_eq}
-use Rattle.indexmap.specs.IndexMap.{get}
+use Rattle.std.specs.Ordering.{int_cmp}
+use Rattle.std.specs.BTreeMap.{get}
 use Rattle.block_table.specs.declared.Block.{Block}
 use Rattle.schematic.specs.Palette.{block_or_air}
 use Rattle.schematic.specs.Cells.{value_of, varints, fault_from, cells_fault}
@@ -15,7 +15,7 @@ use Rattle.schematic.proofs.cells.blocks_with.Goals as goal
 pub returns-in_default-clause-err : goal.returns-in_default-clause-err
 unfolding cells_fault
 returns-in_default-clause-err c =
-    let f : ℤ → Option Block = λ n. get int_eq c.args.blocks.now n in
+    let f : ℤ → Option Block = λ n. get int_cmp c.args.blocks.now n in
     let rest = c.loop.rest.now in
     let place : ℕ = length c.args.cells.now - length rest in
     cause_is _ _ (wrong_cells place) c.wrong_cells.ensures
@@ -24,7 +24,7 @@ returns-in_default-clause-err c =
 pub returns-in_default-block_numbered-clause-err : goal.returns-in_default-block_numbered-clause-err
 unfolding cells_fault
 returns-in_default-block_numbered-clause-err c =
-    let f : ℤ → Option Block = λ n. get int_eq c.args.blocks.now n in
+    let f : ℤ → Option Block = λ n. get int_cmp c.args.blocks.now n in
     let rest = c.loop.rest.now in
     let place : ℕ = length c.args.cells.now - length rest in
     cause_is _ _ (wrong_cells place) c.wrong_cells-in_default-block_numbered.ensures
@@ -33,7 +33,7 @@ returns-in_default-block_numbered-clause-err c =
 
 pub loop-preserved : goal.loop-preserved
 loop-preserved c =
-    let f : ℤ → Option Block = λ n. get int_eq c.args.blocks.now n in
+    let f : ℤ → Option Block = λ n. get int_cmp c.args.blocks.now n in
     let g : List ℕ → Block = λ v. block_or_air (f (pos (value_of v))) in
     let cells = c.args.cells.now in
     let rest = c.loop.rest.now in
@@ -58,7 +58,7 @@ loop-preserved c =
 pub returns-else-is_empty-clause-err : goal.returns-else-is_empty-clause-err
 unfolding cells_fault
 returns-else-is_empty-clause-err c =
-    let f : ℤ → Option Block = λ n. get int_eq c.args.blocks.now n in
+    let f : ℤ → Option Block = λ n. get int_cmp c.args.blocks.now n in
     let rest = c.loop.rest.now in
     let place : ℕ = length c.args.cells.now - length rest in
     let all = c.loop-test.false in

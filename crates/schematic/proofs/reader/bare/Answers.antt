@@ -3,9 +3,9 @@ use Rattle.std.specs.Prelude.{option_map}
 use Rattle.std.specs.Option.{is_none}
 use Rattle.std.specs.Int.{w32}
 use Rattle.std.proofs.lemmas.Int.{to_z-of_z}
-use Rattle.std.specs.Ordering.{int_eq}
+use Rattle.std.specs.Ordering.{int_cmp}
 use Rattle.build.specs.Edits.{fresh}
-use Rattle.indexmap.specs.IndexMap.{get}
+use Rattle.std.specs.BTreeMap.{get}
 use Rattle.nbt.specs.Plain.{PlainFields, PlainField, plain_fields}
 use Rattle.block_table.specs.declared.Block.{Block}
 use Rattle.schematic.specs.Fields.{volume_of, cells_in}
@@ -20,7 +20,7 @@ pub returns-in_err-blocks-clause-err : goal.returns-in_err-blocks-clause-err
 returns-in_err-blocks-clause-err c =
     let R : PlainFields = plain_fields c.args.root.now.items in
     let E : List PlainField = entries_in R in
-    let f : ℤ → Option Block = get int_eq c.in-Some.numbered in
+    let f : ℤ → Option Block = get int_cmp c.in-Some.numbered in
     let found = rw c.in-Some.is at c.in_ok-numbered.ensures.blocks in
     let same : f ≡ block_numbered E = by_numbers f (plain_entries c.args.entries.now) E found c.requires.entries in
     let differ : clash E ≡ false = ap clash (sym c.requires.entries) ∙ c.in_ok-numbered.ensures.clash ∙ ap is_none c.in-Some.is in
@@ -34,7 +34,7 @@ pub of_blocks-requires-clause-listed : goal.of_blocks-requires-clause-listed
 of_blocks-requires-clause-listed c =
     let R : PlainFields = plain_fields c.args.root.now.items in
     let E : List PlainField = entries_in R in
-    let f : ℤ → Option Block = get int_eq c.in-Some.numbered in
+    let f : ℤ → Option Block = get int_cmp c.in-Some.numbered in
     let found = rw c.in-Some.is at c.in_ok-numbered.ensures.blocks in
     let same : f ≡ block_numbered E = by_numbers f (plain_entries c.args.entries.now) E found c.requires.entries in
     all_listed E (cells_in R) c.in_ok-blocks.blocks.items (c.in_ok-blocks.ensures.blocks ∙ blocks_same f (block_numbered E) c.cells_in.result.now (cells_in R) same c.cells_in.ensures)
@@ -44,7 +44,7 @@ unfolding bare
 returns-clause-build c =
     let R : PlainFields = plain_fields c.args.root.now.items in
     let E : List PlainField = entries_in R in
-    let f : ℤ → Option Block = get int_eq c.in-Some.numbered in
+    let f : ℤ → Option Block = get int_cmp c.in-Some.numbered in
     let found = rw c.in-Some.is at c.in_ok-numbered.ensures.blocks in
     let same : f ≡ block_numbered E = by_numbers f (plain_entries c.args.entries.now) E found c.requires.entries in
     let blocks = c.in_ok-blocks.ensures.blocks ∙ blocks_same f (block_numbered E) c.cells_in.result.now (cells_in R) same c.cells_in.ensures in
@@ -55,7 +55,7 @@ pub returns-clause-sound : goal.returns-clause-sound
 returns-clause-sound c =
     let R : PlainFields = plain_fields c.args.root.now.items in
     let E : List PlainField = entries_in R in
-    let f : ℤ → Option Block = get int_eq c.in-Some.numbered in
+    let f : ℤ → Option Block = get int_cmp c.in-Some.numbered in
     let found = rw c.in-Some.is at c.in_ok-numbered.ensures.blocks in
     let same : f ≡ block_numbered E = by_numbers f (plain_entries c.args.entries.now) E found c.requires.entries in
     let differ : clash E ≡ false = ap clash (sym c.requires.entries) ∙ c.in_ok-numbered.ensures.clash ∙ ap is_none c.in-Some.is in
