@@ -1,46 +1,57 @@
-//! A block of the table in two bytes.
+//! Blocks of the table in two bytes each.
 #![tactic(auto)]
 
 ghost use Rattle.std.specs.Prelude.{◌≡◌, IsTrue};
 ghost use Rattle.block_table.specs.WrittenText.{is_listed};
 
+mod codes;
+#[cfg(test)]
+mod tests;
+
 use block_table::Block;
 use std::marker::Model;
 
-/// A block of the table, in two bytes.
+/// A block of the table in two bytes. Contracts see the block. The bytes of air are zeros.
 #[derive(Clone, Copy)]
 pub struct PackedBlock {
-    block: Block,
+    code: u16,
 }
 
 impl Model for PackedBlock {
-    ghost use Rattle.std.specs.Prelude.{◌≡◌, true};
+    ghost use Rattle.std.specs.Prelude.{ℕ, ◌≡◌, IsTrue};
+    ghost use Rattle.std.proofs.Common.{ap};
     ghost use Rattle.block_table.specs.declared.Block.{Block};
     ghost use Rattle.block_table.specs.WrittenText.{is_listed};
+    ghost use Rattle.packed_block.specs.Packed.{packed, unpacked};
 
     ghost Value = { Block };
 
-    ghost view = { λ p. p.block };
+    ghost view = { λ p. unpacked p.code };
 
-    ghost invariant = { λ p. is_listed p.block ≡ true };
+    ghost invariant = { λ p. (packed (unpacked p.code) ≡ p.code) × IsTrue (is_listed (unpacked p.code)) };
 
-    ghost inverse = { λ b. record { block = b } };
+    ghost inverse = { λ block. record { code = packed block } };
+
+    ghost inverse_ok = { λ a h. ap (λ (code : ℕ). record { code = code }) h.0 };
 }
 
 impl PackedBlock {
-    /// The block in two bytes.
+    /// Packs a block that some text means.
+    #[tactic(auto, using(crate::proofs::RoundTrip::comes_back))]
     pub fn new(block: Block) -> PackedBlock
         requires listed { IsTrue (is_listed block) }
         ensures { result ≡ block }
     {
-        PackedBlock { block }
+        PackedBlock {
+            code: codes::packed(block),
+        }
     }
 
-    /// The block.
+    /// The block that was packed.
     pub fn block(self) -> Block
         ensures value { result ≡ self }
         ensures listed { IsTrue (is_listed result) }
     {
-        self.block
+        codes::unpacked(self.code)
     }
 }
