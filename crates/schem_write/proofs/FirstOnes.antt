@@ -1,17 +1,20 @@
 -- Texts, each once, and their numbers.
-use Rattle.std.proofs.Common.{◌≡◌, ℕ, suc, ◌+◌, ◌<◌, ◌≤◌, List, [], ◌∷◌, ◌++◌, length, Bool, true, false, refl, sym, ap, ◌∙◌, arith, inl, inr, Some, None, cond}
+use Rattle.std.proofs.Common.{◌≡◌, ℕ, suc, ◌+◌, ◌<◌, ◌≤◌, List, [], ◌∷◌, ◌++◌, length, Bool, true, false, refl, sym, ap, ◌∙◌, arith, inl, inr, Option, Some, None, cond}
 use Rattle.std.specs.Prelude.{nat_lt, not, ◌⊎◌, filter, position, Vec}
 use Rattle.std.specs.declared.alloc.Global.{Global}
 use Rattle.std.specs.List.{list_any, position_or_len, flat_map}
 use Rattle.std.specs.Str.{bytes_eq}
 use Rattle.std.proofs.lemmas.Slice.Eq.{bytes_eq-Decides}
-use Rattle.std.proofs.lemmas.Bool.{cases_Bool, false≢true, ltb-true}
+use Rattle.std.proofs.lemmas.List.Folds.{list_any-append}
+use Rattle.std.proofs.lemmas.Bool.{cases_Bool, or_parts, false≢true, ltb-true}
 use Rattle.std.proofs.lemmas.Bool.Decides.{nat_tests}
 use Rattle.std.proofs.lemmas.List.{append-nil, map-append}
 use Rattle.std.proofs.lemmas.Grind.{flat_map-append}
 use Rattle.std.proofs.lemmas.Map.Views.{any-filter_same}
 use Rattle.schem_write.specs.Varint.{varint}
-use Rattle.schem_write.specs.PaletteTexts.{first_ones, number_in, with_text}
+use Rattle.block_table.specs.declared.Block.TheVariants.{Air}
+use Rattle.block_table.specs.WrittenText.{state_text}
+use Rattle.schem_write.specs.PaletteTexts.{first_ones, number_in, with_text, IsNumberOf, IsAirNumber}
 use Rattle.schem_write.specs.Code.{texts_of}
 
 pub text_itself : (t : List ℕ) → bytes_eq t t ≡ true
@@ -28,6 +31,46 @@ text_either s t h = elim (cases_Bool (bytes_eq t s)) [
 
 abbrev has : List ℕ → List (List ℕ) → Bool
 has t texts = list_any (bytes_eq t) texts
+
+-- a text that went last has the number that it was to have
+pub number-with_text : (t : List ℕ) (texts : List (List ℕ)) → number_in (with_text texts t) t ≡ number_in texts t
+number-with_text t texts = elim (cases_Bool (has t texts)) [
+  | inl e ↦ rw e refl
+  | inr e ↦ rw e (last t texts e)
+]
+  where
+    last : (t : List ℕ) (texts : List (List ℕ)) → has t texts ≡ false → number_in (texts ++ t ∷ []) t ≡ number_in texts t
+    last t [] e = rw (text_itself t) refl
+    last t (s ∷ texts) e =
+        let parts = or_parts (bytes_eq t s) (has t texts) e in
+        rw (parts.0, last t texts parts.1) refl
+
+pub has-with_text : (t : List ℕ) (texts : List (List ℕ)) → has t (with_text texts t) ≡ true
+has-with_text t texts = elim (cases_Bool (has t texts)) [
+  | inl e ↦ rw (e, e) refl
+  | inr e ↦ rw e (list_any-append (bytes_eq t) texts (t ∷ []) ∙ rw (e, text_itself t) refl)
+]
+
+pub with_text-there : (t : List ℕ) (texts : List (List ℕ)) → has t texts ≡ true → with_text texts t ≡ texts
+with_text-there t texts e = rw e refl
+
+-- a text that is there keeps its number
+number-append : (t u : List ℕ) (texts : List (List ℕ)) → has t texts ≡ true → number_in (texts ++ u ∷ []) t ≡ number_in texts t
+number-append t u [] e = absurd (false≢true e)
+number-append t u (s ∷ texts) e = elim (cases_Bool (bytes_eq t s)) [
+  | inl f ↦ rw f refl
+  | inr f ↦ (let there : has t texts ≡ true = rw f at e in rw (f, number-append t u texts there) refl)
+]
+
+still_number : (t u : List ℕ) (number : ℕ) (texts : List (List ℕ)) → IsNumberOf texts t number → IsNumberOf (with_text texts u) t number
+still_number t u number texts h = elim (cases_Bool (has u texts)) [
+  | inl e ↦ rw e h
+  | inr e ↦ rw e (h.0 ∙ sym (number-append t u texts h.1), list_any-append (bytes_eq t) texts (u ∷ []) ∙ rw h.1 refl)
+]
+
+pub still_air : (texts : List (List ℕ)) (u : List ℕ) (air : Option ℕ) → IsAirNumber texts air → IsAirNumber (with_text texts u) air
+still_air texts u None h = tt
+still_air texts u (Some number) h = still_number (state_text Air) u number texts h
 
 abbrev without : List ℕ → List (List ℕ) → List (List ℕ)
 without t texts = filter (λ other. not (bytes_eq other t)) texts

@@ -1,9 +1,10 @@
 -- The palette of a file, and the cells as numbers of the palette.
-use Rattle.std.specs.Prelude.{ℕ, ◌+◌, pos, not, if◌then◌else◌, List, [], ◌∷◌, ◌++◌, map, filter}
+use Rattle.std.specs.Prelude.{◌≡◌, ℕ, ◌+◌, pos, true, not, ⊤, Option, Some, None, if◌then◌else◌, List, [], ◌∷◌, ◌++◌, map, filter}
 use Rattle.std.specs.List.{flat_map, list_any, position_or_len}
 use Rattle.std.specs.Str.{bytes_eq}
 use Rattle.nbt.specs.Plain.{PlainField, int}
 use Rattle.block_table.specs.declared.Block.{Block}
+use Rattle.block_table.specs.declared.Block.TheVariants.{Air}
 use Rattle.block_table.specs.WrittenText.{state_text}
 use Rattle.schem_write.specs.Varint.{varint}
 
@@ -32,3 +33,12 @@ numbered_from n (text ∷ texts) = (text, int (pos n)) ∷ numbered_from (n + 1)
 -- a palette with a text, which goes last unless it is there
 abbrev pub with_text : List (List ℕ) → List ℕ → List (List ℕ)
 with_text palette text = if list_any (bytes_eq text) palette then palette else palette ++ (text ∷ [])
+
+-- the text stands in the palette, and has this number
+abbrev pub IsNumberOf : List (List ℕ) → List ℕ → ℕ → Type 0
+IsNumberOf palette text number = (number ≡ number_in palette text) × (list_any (bytes_eq text) palette ≡ true)
+
+-- the number of the text of air, if it is known
+abbrev pub IsAirNumber : List (List ℕ) → Option ℕ → Type 0
+IsAirNumber palette None = ⊤
+IsAirNumber palette (Some number) = IsNumberOf palette (state_text Air) number

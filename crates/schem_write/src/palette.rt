@@ -1,13 +1,14 @@
 //! The palette of a build, and its cells as numbers of the palette.
 
-ghost use Rattle.std.specs.Prelude.{◌≡◌, ◌≤◌, ◌*◌, ◌++◌, ◌^◌, ◌<◌, [], length, IfOk, OnOk};
+ghost use Rattle.std.specs.Prelude.{◌≡◌, ◌≤◌, ◌*◌, ◌++◌, ◌^◌, ◌<◌, ℕ, List, [], length, IfOk, OnOk, IsTrue};
 ghost use Rattle.build.specs.Plan.{IsWhole};
-ghost use Rattle.schem_write.specs.PaletteTexts.{palette_of, cells_of, number_in, with_text, numbered_from};
+ghost use Rattle.block_table.specs.WrittenText.{is_listed, state_text};
+ghost use Rattle.schem_write.specs.PaletteTexts.{palette_of, cells_of, number_in, with_text, numbered_from, IsNumberOf, IsAirNumber};
 ghost use Rattle.schem_write.specs.Code.{texts_of, plain_pairs};
 
 use crate::fields::push;
 use crate::varint::push_varint;
-use block_table::push_state;
+use block_table::{Block, push_state};
 use build::Build;
 use indexmap::IndexSet;
 use nbt::{Fields, Tree};
@@ -21,12 +22,46 @@ pub type Palette = IndexSet<Vec<u8>>;
 fn number_of(alloc: Global, palette: &mut Palette, text: &[u8]) -> Result<usize, NoMemory>
     ensures number { IfOk result (λ number. number ≡ number_in (texts_of palette.old.keys) text.now) }
     ensures texts { OnOk result (texts_of palette.new.keys ≡ with_text (texts_of palette.old.keys) text.now) }
+    ensures known { IfOk result (λ number. IsNumberOf (texts_of palette.new.keys) text.now number) }
 {
     if let Some(number) = palette.get_index_of(text) {
         return Ok(number);
     }
     let (number, _) = palette.insert_full(Vec::from_slice(alloc, text)?)?;
     Ok(number)
+}
+
+/// The number of a block's text, which is `air` for air, where that is known.
+fn number_of_block(
+    alloc: Global,
+    palette: &mut Palette,
+    text: &mut Vec<u8>,
+    air: Option<usize>,
+    block: Block,
+) -> Result<usize, NoMemory>
+    requires air { IsAirNumber (texts_of palette.old.keys) air }
+    requires listed { IsTrue (is_listed block) }
+    ensures number { IfOk result (λ number. number ≡ number_in (texts_of palette.old.keys) (state_text block)) }
+    ensures texts { OnOk result (texts_of palette.new.keys ≡ with_text (texts_of palette.old.keys) (state_text block)) }
+    ensures known { IfOk result (λ number. IsNumberOf (texts_of palette.new.keys) (state_text block) number) }
+{
+    if let (Block::Air, Some(number)) = (block, air) {
+        return Ok(number);
+    }
+    text.clear();
+    push_state(block, text)?;
+    number_of(alloc, palette, text)
+}
+
+/// The number of air, where one block more has its number.
+fn air_number(air: Option<usize>, block: Block, number: usize) -> Option<usize>
+    ensures { (palette : List (List ℕ)) → IsAirNumber palette air → IsNumberOf palette (state_text block) number → IsAirNumber palette result }
+{
+    if let Block::Air = block {
+        Some(number)
+    } else {
+        air
+    }
 }
 
 /// The palette of a build, and the bytes of its cells.
@@ -39,11 +74,12 @@ pub fn palette_and_cells(alloc: Global, build: &Build) -> Result<(Palette, Vec<u
     let mut palette = IndexSet::new(alloc);
     let mut cells = Vec::with_capacity(alloc, build.cells())?;
     let mut text = Vec::new(alloc);
+    let mut air = None;
     for cell in 0..build.cells() {
-        text.clear();
-        push_state(build.at(build.place(cell)), &mut text)?;
-        let number = number_of(alloc, &mut palette, &text)?;
+        let block = build.block_in(cell);
+        let number = number_of_block(alloc, &mut palette, &mut text, air, block)?;
         push_varint(&mut cells, number)?;
+        air = air_number(air, block, number);
     }
     Ok((palette, cells))
 }

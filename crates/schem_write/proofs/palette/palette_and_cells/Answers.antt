@@ -1,8 +1,9 @@
-use Rattle.std.proofs.Common.{◌≡◌, ◌<◌, ◌++◌, List, ℕ, ap, ◌∙◌, arith}
+use Rattle.std.proofs.Common.{◌≡◌, ◌<◌, ◌++◌, List, ℕ, sym, ap, subst, ◌∙◌, arith}
 use Rattle.block_table.specs.WrittenText.{state_text}
 use Rattle.build.specs.Plan.{Plan, volume, place_of, block_at}
 use Rattle.schem_write.specs.Code.{texts_of}
-use Rattle.schem_write.specs.PaletteTexts.{number_in, with_text}
+use Rattle.schem_write.specs.PaletteTexts.{IsAirNumber}
+use Rattle.schem_write.proofs.FirstOnes.{still_air}
 use Rattle.schem_write.proofs.CellSteps.{before-more, all-texts, all-cells, few-texts}
 use Rattle.schem_write.proofs.palette.palette_and_cells.Goals as goal
 
@@ -10,24 +11,25 @@ pub loop-cell-preserved : goal.loop-cell-preserved
 loop-cell-preserved c =
     let b : Plan = c.args.build.now in
     let inside : c.loop-cell.cell < volume b = omega (arith, c.cells-cell-end.ensures.count) in
-    let text : c.push_state.new.out.items ≡ state_text (block_at b (place_of b c.loop-cell.cell)) =
-    c.in_ok-push_state.ensures.ok ∙ ap (λ (t : List ℕ). t ++ state_text c.at.result) c.clear.ensures.items
-    ∙ ap state_text (c.at.ensures.value ∙ ap (block_at b) c.place.ensures) in
-    before-more b (texts_of c.loop-cell.palette.keys) (texts_of c.number_of.new.palette.keys) c.loop-cell.cells.items c.push_varint.new.out.items
-    c.loop-cell.cell c.in_ok-number.number c.push_state.new.out.items c.cells.ensures.whole inside text
-    (c.in_ok-number.ensures.number ∙ ap (number_in (texts_of c.loop-cell.palette.keys)) c.deref.ensures.value)
-    (c.in_ok-number.ensures.texts ∙ ap (with_text (texts_of c.loop-cell.palette.keys)) c.deref.ensures.value)
-    c.in_ok-push_varint.ensures
-    c.loop-cell.invariant
+    let text : List ℕ = state_text c.block_in-block.result in
+    let same : text ≡ state_text (block_at b (place_of b c.loop-cell.cell)) = ap state_text c.block_in-block.ensures.value in
+    record {
+      before = before-more b (texts_of c.loop-cell.palette.keys) (texts_of c.number_of_block.new.palette.keys) c.loop-cell.cells.items c.push_varint.new.out.items
+          c.loop-cell.cell c.in_ok-number.number text c.cells.ensures.whole inside same
+          c.in_ok-number.ensures.number c.in_ok-number.ensures.texts c.in_ok-push_varint.ensures c.loop-cell.invariant.before;
+      air = c.air_number-air.ensures (texts_of c.number_of_block.new.palette.keys)
+          (subst (λ (texts : List (List ℕ)). IsAirNumber texts c.loop-cell.air) (sym c.in_ok-number.ensures.texts) (still_air (texts_of c.loop-cell.palette.keys) text c.loop-cell.air c.loop-cell.invariant.air))
+          c.in_ok-number.ensures.known;
+    }
 
 pub returns-clause-texts : goal.returns-clause-texts
 returns-clause-texts c =
-    all-texts c.args.build.now (texts_of c.loop-cell.palette.keys) c.loop-cell.cells.items c.loop-cell.cell c.cells.ensures.whole (omega (arith, c.cells-cell-end.ensures.count)) c.loop-cell.invariant
+    all-texts c.args.build.now (texts_of c.loop-cell.palette.keys) c.loop-cell.cells.items c.loop-cell.cell c.cells.ensures.whole (omega (arith, c.cells-cell-end.ensures.count)) c.loop-cell.invariant.before
 
 pub returns-clause-cells : goal.returns-clause-cells
 returns-clause-cells c =
-    all-cells c.args.build.now (texts_of c.loop-cell.palette.keys) c.loop-cell.cells.items c.loop-cell.cell c.cells.ensures.whole (omega (arith, c.cells-cell-end.ensures.count)) c.loop-cell.invariant
+    all-cells c.args.build.now (texts_of c.loop-cell.palette.keys) c.loop-cell.cells.items c.loop-cell.cell c.cells.ensures.whole (omega (arith, c.cells-cell-end.ensures.count)) c.loop-cell.invariant.before
 
 pub returns-clause-few : goal.returns-clause-few
 returns-clause-few c =
-    few-texts c.args.build.now c.loop-cell.palette.keys c.loop-cell.cells.items c.loop-cell.cell c.cells.ensures.whole c.loop-cell.invariant
+    few-texts c.args.build.now c.loop-cell.palette.keys c.loop-cell.cells.items c.loop-cell.cell c.cells.ensures.whole c.loop-cell.invariant.before
