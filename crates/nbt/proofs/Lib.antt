@@ -8,5 +8,7 @@ pub mod Stacks
 pub mod Growing
 pub mod Places
 pub mod Excludes
+pub mod Onward
+pub mod OneFault
 pub mod Finding
 pub mod Appends

@@ -17,10 +17,10 @@ use Rattle.nbt.proofs.Growing.{grown-begun, grown-payload, grown-beginning, clos
 use Rattle.nbt.proofs.Stops.{some-tree}
 
 -- what is begun can be finished
-abbrev Finishes : Begun → List Begun → Type 0
+abbrev pub Finishes : Begun → List Begun → Type 0
 Finishes b outer = (t : PlainTree) × (more : List ℕ) × (type_of t ≡ begun_type b) × CanStand (length outer) t × (payload t ≡ begun_payload b ++ more)
 
-finish-list : (own : List ℕ) (element left : ℕ) (held : List PlainTree) (outer : List Begun) → IsBegun (begun_list own element left held ∷ outer) → Finishes (begun_list own element left held) outer
+pub finish-list : (own : List ℕ) (element left : ℕ) (held : List PlainTree) (outer : List Begun) → IsBegun (begun_list own element left held ∷ outer) → Finishes (begun_list own element left held) outer
 finish-list own element zero held outer h =
     let b = begun_list own element zero held in
     let spelled : payload (closed b) ≡ begun_payload b ++ [] = sym (append-nil (payload (closed b))) ∙ sym (closed-payload b outer [] [] (refl, refl)) in
@@ -150,7 +150,7 @@ trailing s (b ∷ more) r h e some =
 
 -- What comes before a fault begins some root.
 module _ (begun : List Begun) where
-  some-begins : IsBegun begun → (b : Begun) (outer : List Begun) → begun ≡ b ∷ outer → Begins (beginning begun)
+  pub some-begins : IsBegun begun → (b : Begun) (outer : List Begun) → begun ≡ b ∷ outer → Begins (beginning begun)
   some-begins h b outer e =
       let whole = finish b outer (subst IsBegun e h) in
       let h' = subst IsBegun e h in
@@ -196,12 +196,12 @@ within-begins depth t (list_length element) within hold h =
     let one = list-front depth element (hold (inl h.0)) h.1 h.2 in
     (one.0, one.1, one.2 ∙ sym h.0, one.3, one.4 ∙ ap (λ (x : List ℕ). x ++ one.1) (sym h.3))
 
-may-hold : (begun : List Begun) (t : ℕ) (name : List ℕ) → IsBegun begun → MayCome begun t name → MayHold (length begun) t
+pub may-hold : (begun : List Begun) (t : ℕ) (name : List ℕ) → IsBegun begun → MayCome begun t name → MayHold (length begun) t
 may-hold [] t name h come nest = omega arith
 may-hold (begun_compound own held ∷ outer) t name h come nest = come.2 nest
 may-hold (begun_list own element left held ∷ outer) t name h come nest = h.3.2 (subst IsNest come.0 nest)
 
-before-begins : (begun : List Begun) (item : Item) (before : List ℕ) → IsBegun begun → Comes begun item before → Begins (beginning begun ++ before)
+pub before-begins : (begun : List Begun) (item : Item) (before : List ℕ) → IsBegun begun → Comes begun item before → Begins (beginning begun ++ before)
 before-begins begun item before h comes = elim comes [
   | inl at ↦ field-begins begun item h at.0 (sym (append-nil (beginning begun)) ∙ ap (λ (x : List ℕ). beginning begun ++ x) (sym at.1))
   | inr at ↦

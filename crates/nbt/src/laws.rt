@@ -51,3 +51,10 @@ pub fn a_fault_is_the_first()
     ensures { (bytes : List ℕ) (place : ℕ) (kind : NbtKind) → IsFirstFault bytes place kind
         → Begins (take place bytes) ⊎ IsCutLength bytes }
 {}
+
+/// Bytes have one first fault at most: one place and one kind.
+pub fn one_first_fault()
+    ensures { (bytes : List ℕ) (place other : ℕ) (kind also : NbtKind)
+        → IsFirstFault bytes place kind → IsFirstFault bytes other also
+        → (place ≡ other) × (kind ≡ also) }
+{}
