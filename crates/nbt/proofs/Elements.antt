@@ -43,7 +43,7 @@ abbrev pub AreNumbersOf : Width → ℕ → List ℕ → Type 0
 AreNumbersOf w n raw = (zs : List ℤ) × (length zs ≡ n) × AllByRecursion (FitsSigned w) zs × (all_signed w zs ≡ raw)
 
 module _ (w : Width) (size : ℕ) (one : (raw : List ℕ) → length raw ≡ size → IsBytes raw → IsNumberOf w raw) where
-  numbers-of : (n : ℕ) (raw : List ℕ) → length raw ≡ n * size → IsBytes raw → AreNumbersOf w n raw
+  pub numbers-of : (n : ℕ) (raw : List ℕ) → length raw ≡ n * size → IsBytes raw → AreNumbersOf w n raw
   numbers-of zero [] e h = ([], refl, tt, refl)
   numbers-of zero (b ∷ raw) e h = absurd (omega arith)
   numbers-of (suc n) raw e h =

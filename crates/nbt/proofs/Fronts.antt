@@ -8,12 +8,17 @@ use Rattle.std.proofs.Math.Nat.{mod-eq_of_lt}
 use mir.Val.{bits}
 use Rattle.std.proofs.lemmas.Nat.{be_bytes_2, be_bytes_4, be_bytes_8}
 use Rattle.byteorder.specs.Endian.{big_from}
-use Rattle.nbt.specs.Spelling.{unsigned, signed, short_text}
+use Rattle.nbt.specs.Spelling.{unsigned, signed, short_text, AreBytes}
 use Rattle.nbt.specs.Reading.{IsCutText}
 use Rattle.nbt.proofs.Numbers.{signed-is}
 
 abbrev pub IsBytes : List ℕ → Type 0
 IsBytes bs = (i : ℕ) → get_or bs i 0 < 256
+
+pub is-bytes : (bs : List ℕ) → AreBytes bs → IsBytes bs
+is-bytes [] h i = omega arith
+is-bytes (b ∷ bs) h zero = h.0
+is-bytes (b ∷ bs) h (suc i) = is-bytes bs h.1 i
 
 pub bytes-front : (s t : List ℕ) → IsBytes (s ++ t) → IsBytes s
 bytes-front [] t h i = omega arith

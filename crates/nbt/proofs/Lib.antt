@@ -10,5 +10,7 @@ pub mod Places
 pub mod Excludes
 pub mod Onward
 pub mod OneFault
+pub mod Beginnings
+pub mod OneOfTwo
 pub mod Finding
 pub mod Appends

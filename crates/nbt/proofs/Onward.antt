@@ -72,21 +72,21 @@ array-with depth t n array low = elim array [
       ]
 ]
 
-empty-with : (depth n : ℕ) → depth < max_depth → n < 2 ^ 32 → (IsWrongLength (list_length 0) n → ⊥) → IsOneWith depth 9 (0 ∷ unsigned w32 n)
-empty-with depth zero room low right =
-    let fits : FitsSigned w32 (pos 0) = record { sfits = omega arith } in
-    let spelled : 0 ∷ signed w32 (pos 0) ≡ (0 ∷ unsigned w32 0) ++ [] = ap (λ (x : List ℕ). 0 ∷ x) (signed-is w32 (pos 0)) ∙ sym (append-nil (0 ∷ unsigned w32 0)) in
-    (empty_list (pos 0), [], refl, (room, fits, omega (arith, signs)), spelled)
-empty-with depth (suc n) room low right = elim (cases_lt (suc n) (2 ^ 31)) [
+-- the length of a list of type End
+pub empty-number : (n : ℕ) → n < 2 ^ 32 → (IsWrongLength (list_length 0) n → ⊥) → (z : ℤ) × FitsSigned w32 z × (z ≤ℤ pos 0) × (signed w32 z ≡ unsigned w32 n)
+empty-number zero low right = (pos 0, record { sfits = omega arith }, omega (arith, signs), signed-is w32 (pos 0))
+empty-number (suc n) low right = elim (cases_lt (suc n) (2 ^ 31)) [
   | inl small ↦ absurd (right (omega arith, small))
   | inr big ↦
       let z : ℤ = negsuc (2 ^ 32 - suc (suc n)) in
-      let fits : FitsSigned w32 z = record { sfits = omega arith } in
       let same : cast_unsigned w32 z ≡ suc n = omega arith in
-      let spelled : 0 ∷ signed w32 z ≡ (0 ∷ unsigned w32 (suc n)) ++ [] =
-      ap (λ (x : List ℕ). 0 ∷ x) (signed-is w32 z ∙ ap (unsigned w32) same) ∙ sym (append-nil (0 ∷ unsigned w32 (suc n))) in
-      (empty_list z, [], refl, (room, fits, omega (arith, signs)), spelled)
+      (z, record { sfits = omega arith }, omega (arith, signs), signed-is w32 z ∙ ap (unsigned w32) same)
 ]
+
+empty-with : (depth n : ℕ) → depth < max_depth → n < 2 ^ 32 → (IsWrongLength (list_length 0) n → ⊥) → IsOneWith depth 9 (0 ∷ unsigned w32 n)
+empty-with depth n room low right =
+    let z = empty-number n low right in
+    (empty_list z.0, [], refl, (room, z.1, z.2), ap (λ (x : List ℕ). 0 ∷ x) (z.3 ∙ sym (append-nil (unsigned w32 n))))
 
 numbers-with : (depth element n : ℕ) → depth < max_depth → 1 ≤ element → element ≤ 6 → n < 2 ^ 31 → IsOneWith depth 9 (element ∷ unsigned w32 n)
 numbers-with depth element n room low high few =

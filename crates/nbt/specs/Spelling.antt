@@ -121,3 +121,7 @@ CanBeSpelled r = (length r.name < 2 ^ 16) × FieldsCanStand 1 r.fields
 -- The bytes spell the root.
 abbrev pub Spells : List ℕ → PlainRoot → Type 0
 Spells bs r = CanBeSpelled r × (bs ≡ spelling r)
+
+-- Every one of these numbers is a byte.
+abbrev pub AreBytes : List ℕ → Type 0
+AreBytes bs = AllByRecursion (λ b. b < 256) bs

@@ -3,7 +3,7 @@
 
 ghost use Rattle.std.specs.Prelude.{◌≡◌, ℕ, List, [], ◌++◌, take, ◌⊎◌, IfOk};
 ghost use Rattle.nbt.specs.Plain.{PlainRoot, plain_root};
-ghost use Rattle.nbt.specs.Spelling.{spelling, CanBeSpelled, Spells};
+ghost use Rattle.nbt.specs.Spelling.{spelling, CanBeSpelled, Spells, AreBytes};
 ghost use Rattle.nbt.specs.Faults.{IsFirstFault, Begins, IsCutLength};
 ghost use Rattle.nbt.specs.declared.refusals.NbtKind.{NbtKind};
 
@@ -50,6 +50,13 @@ pub fn a_fault_excludes()
 pub fn a_fault_is_the_first()
     ensures { (bytes : List ℕ) (place : ℕ) (kind : NbtKind) → IsFirstFault bytes place kind
         → Begins (take place bytes) ⊎ IsCutLength bytes }
+{}
+
+/// Bytes spell a root, or have a first fault. `a_fault_excludes` says that they never do both.
+pub fn a_root_or_a_fault()
+    ensures { (bytes : List ℕ) → AreBytes bytes
+        → ((root : PlainRoot) × Spells bytes root)
+        ⊎ ((place : ℕ) × (kind : NbtKind) × IsFirstFault bytes place kind) }
 {}
 
 /// Bytes have one first fault at most: one place and one kind.
