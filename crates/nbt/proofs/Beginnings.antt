@@ -1,5 +1,5 @@
 -- What bytes start with, or where they stop: each list of bytes does one of the two.
-use Rattle.std.proofs.Common.{◌≡◌, ◌≢◌, ◌<◌, ◌≤◌, ◌+◌, ◌*◌, ◌^◌, ℕ, zero, suc, List, [], ◌∷◌, ◌++◌, length, take, drop, refl, sym, ap, ◌∙◌, subst, arith, append_assoc, inl, inr}
+use Rattle.std.proofs.Common.{◌≡◌, ◌<◌, ◌≤◌, ◌+◌, ◌*◌, ◌^◌, ℕ, zero, suc, List, [], ◌∷◌, ◌++◌, length, take, drop, refl, sym, ap, ◌∙◌, subst, arith, inl, inr}
 use Rattle.std.specs.Prelude.{◌⊎◌}
 use Rattle.std.specs.Int.{w16, w32, w64}
 use Rattle.std.proofs.lemmas.Bool.{cases_lt, cases_eq}
@@ -7,17 +7,17 @@ use Rattle.std.proofs.lemmas.List.{append-nil, take-append-drop, length-take}
 use Rattle.byteorder.specs.Endian.{big_from}
 use Rattle.byteorder.specs.Numbers.{big_from-lt}
 use Rattle.nbt.specs.Plain.{PlainTree, PlainField, bytes, text, ints, longs, empty_list, numbers}
-use Rattle.nbt.specs.Spelling.{unsigned, short_text, all_signed, type_of, number_size, payload, max_depth, IsNest, MayHold, CanStand}
+use Rattle.nbt.specs.Spelling.{unsigned, short_text, all_signed, type_of, number_size, payload, max_depth, IsText, IsNest, MayHold, CanStand}
 use Rattle.nbt.specs.Faults.{Begun, begun_compound, begun_list, begun_type, begun_name, begun_payload, heading, MayCome, IsRightSoFar, IsBegun, IsWrongLength, list_length}
-use Rattle.nbt.specs.Reading.{IsCutText, IsCutLeaf, IsLeaf, StopsAtLength, StopsAtElements, StopsAtEmpty, StopsAtType, StopsInLeaf, StopsInPayload, StopsAtNext, IsEnd}
+use Rattle.nbt.specs.Reading.{IsCutText, IsLeaf, StopsAtLength, StopsAtElements, StopsAtType, StopsInLeaf, StopsInPayload, StopsAtNext, IsEnd}
 use Rattle.nbt.specs.declared.refusals.NbtKind.{NbtKind}
 use Rattle.nbt.specs.declared.refusals.NbtKind.TheVariants.{Truncated, BadType, BadLength, TooDeep, Trailing, RootNotCompound}
 use Rattle.nbt.specs.declared.open.Stop.{Stop}
 use Rattle.nbt.specs.declared.open.Stop.TheVariants.{At}
 use Rattle.nbt.proofs.Unique.{numbers-count}
-use Rattle.nbt.proofs.Fronts.{IsBytes, bytes-front, bytes-back, unsigned-16, unsigned-32, cut-text-length, cut-text-bytes, text-front}
+use Rattle.nbt.proofs.Fronts.{IsBytes, bytes-front, bytes-back, are-bytes, unsigned-16, unsigned-32, cut-text-length, cut-text-bytes, text-front}
 use Rattle.nbt.proofs.Elements.{number-32, number-64, numbers-of, number-leaf, number-cut, stops-bytes, stops-ints, stops-longs, stops-leaf, string-cut, elements-front}
-use Rattle.nbt.proofs.Stops.{list-type, list-empty, list-items, list-numbers, no-nest, field-type, field-name, next-stops}
+use Rattle.nbt.proofs.Stops.{list-type, list-empty, list-items, list-numbers, field-type, field-name, next-stops}
 use Rattle.nbt.proofs.Onward.{empty-number}
 
 -- the bytes stop, for want of memory aside
@@ -46,7 +46,7 @@ number-front s h = elim (cut-front 4 s) [
 ]
 
 abbrev HasText : List ℕ → Type 0
-HasText s = (t : List ℕ) × (rest : List ℕ) × (s ≡ short_text t ++ rest) × (length t < 2 ^ 16)
+HasText s = (t : List ℕ) × (rest : List ℕ) × (s ≡ short_text t ++ rest) × IsText t
 
 pub text-cuts : (s : List ℕ) → IsBytes s → IsCutText s ⊎ HasText s
 text-cuts s h = elim (cut-front 2 s) [
@@ -58,8 +58,10 @@ text-cuts s h = elim (cut-front 2 s) [
       let limit : n < 2 ^ 16 = omega arith in
       let front : s ≡ unsigned w16 n ++ cut.1 = cut.2 ∙ ap (λ (x : List ℕ). x ++ cut.1) (sym (unsigned-16 cut.0 cut.3 fits)) in
       elim (cut-front n cut.1) [
-        | inl few ↦ inl (cut-text-bytes s cut.1 n limit front few)
-        | inr name ↦ inr (name.0, name.1, text-front s cut.1 name.1 name.0 n front name.2 name.3, subst (λ (m : ℕ). m < 2 ^ 16) (sym name.3) limit)
+        | inl few ↦ inl (cut-text-bytes s cut.1 n h limit front few)
+        | inr name ↦
+            let here : IsBytes name.0 = bytes-front name.0 name.1 (subst IsBytes name.2 (bytes-back cut.0 cut.1 (subst IsBytes cut.2 h))) in
+            inr (name.0, name.1, text-front s cut.1 name.1 name.0 n front name.2 name.3, (subst (λ (m : ℕ). m < 2 ^ 16) (sym name.3) limit, are-bytes name.0 here))
       ]
 ]
 
@@ -119,7 +121,7 @@ bytes-or s h = elim (elements-cut 1 s h) [
   | inl stops ↦ inl (stops.0, stops.1, stops-bytes s (At stops.0 stops.1) h stops.2)
   | inr row ↦
       let count : length row.1 ≡ row.0 = omega (arith, row.5) in
-      inr (bytes row.1, row.2, (refl, λ depth. subst (λ (m : ℕ). m < 2 ^ 31) (sym count) row.4, elements-front s row.1 row.2 row.0 (length row.1) row.1 row.3 count refl))
+      inr (bytes row.1, row.2, (refl, λ depth. (subst (λ (m : ℕ). m < 2 ^ 31) (sym count) row.4, are-bytes row.1 (within s row.1 row.2 row.0 row.3 h)), elements-front s row.1 row.2 row.0 (length row.1) row.1 row.3 count refl))
 ]
 
 text-or : (s : List ℕ) → IsBytes s → LeafOrStop 8 s
@@ -212,13 +214,13 @@ module _ (depth element : ℕ) (name s rest : List ℕ) (room : depth < max_dept
 
   numbers-part : 1 ≤ element → element ≤ 6 → PartOrStop depth 9 name s
   numbers-part low high = elim (elements-cut (number_size element) rest h) [
-    | inl stops ↦ inl (stops.0, stops.1, list-numbers depth element s rest known hold e (At stops.0 stops.1) room low high stops.2)
+    | inl stops ↦ inl (stops.0, stops.1, list-numbers depth element s rest known hold e (At stops.0 stops.1) h room low high stops.2)
     | inr row ↦
         let count = numbers-count element row.0 row.1 row.5 in
         inr (
           whole (numbers element row.1),
           row.2,
-          (refl, (room, low, high, row.0, row.5, row.4), e ∙ ap (λ (x : List ℕ). element ∷ x) (elements-front rest row.1 row.2 row.0 _ row.1 row.3 count refl)),
+          (refl, (room, low, high, row.0, row.5, row.4, are-bytes row.1 (within rest row.1 row.2 row.0 row.3 h)), e ∙ ap (λ (x : List ℕ). element ∷ x) (elements-front rest row.1 row.2 row.0 _ row.1 row.3 count refl)),
         )
   ]
 

@@ -27,9 +27,9 @@ next-tree : (begun : List Begun) (t : ℕ) (name rest within : List ℕ) → IsR
     → IsNextTree (length begun) t within
 next-tree [] t name rest within h come e =
     let r = h.0 in
-    let low : length r.name < 2 ^ 16 = h.1.0 in
+    let low : length r.name < 2 ^ 16 = h.1.0.0 in
     let both : short_text r.name ++ payload (compound r.fields) ≡ short_text name ++ within = (tail-same (sym h.2 ∙ e)).1 in
-    let names = text-same r.name name (payload (compound r.fields)) within low come.1 both in
+    let names = text-same r.name name (payload (compound r.fields)) within low come.1.0 both in
     let room : 0 < max_depth = omega arith in
     (compound r.fields, [], sym come.0, (room, h.1.1), sym names.1 ∙ sym (append-nil (payload (compound r.fields))))
 next-tree (begun_compound own held ∷ outer) t name rest within h come e = at h.0 h.2 (sym h.3 ∙ e)
@@ -40,7 +40,7 @@ next-tree (begun_compound own held ∷ outer) t name rest within h come e = at h
         let parts = tail-same f in
         let both : short_text m ++ (payload one ++ (field_spellings fs ++ (0 ∷ h.1))) ≡ short_text name ++ within =
         sym (append_assoc (short_text m ++ payload one) (field_spellings fs) (0 ∷ h.1) ∙ append_assoc (short_text m) (payload one) (field_spellings fs ++ (0 ∷ h.1))) ∙ parts.1 in
-        let names = text-same m name _ within stands.0 come.3 both in
+        let names = text-same m name _ within stands.0.0 come.3.0 both in
         (one, field_spellings fs ++ (0 ∷ h.1), parts.0, stands.1, sym names.1)
 next-tree (begun_list own element left held ∷ outer) t name rest within h come e = at h.0 h.2 h.3 (sym e ∙ h.4)
   where
@@ -59,7 +59,7 @@ peel-fields d d' (f ∷ held) (field m one fs) rest after h stands e =
     let both : short_text f.0 ++ (payload f.1 ++ (field_spellings (fields_of held) ++ rest)) ≡ short_text m ++ (payload one ++ (field_spellings fs ++ (0 ∷ after))) =
     sym (append_assoc (short_text f.0 ++ payload f.1) (field_spellings (fields_of held)) rest ∙ append_assoc (short_text f.0) (payload f.1) (field_spellings (fields_of held) ++ rest))
     ∙ parts.1 ∙ (append_assoc (short_text m ++ payload one) (field_spellings fs) (0 ∷ after) ∙ append_assoc (short_text m) (payload one) (field_spellings fs ++ (0 ∷ after))) in
-    let names = text-same f.0 m _ _ h.0 stands.0 both in
+    let names = text-same f.0 m _ _ h.0.0 stands.0.0 both in
     let first = tree-same d d' f.1 one _ _ h.1 stands.1 parts.0 names.1 in
     peel-fields d d' held fs rest after h.2 stands.2 first.1
 
@@ -171,7 +171,7 @@ counted-right : (n : ℕ) (row after s : List ℕ) → n < 2 ^ 31 → s ≡ (uns
 counted-right n row after s low e = (n, row ++ after, e ∙ append_assoc (unsigned w32 n) row after, omega arith, λ wrong. omega arith)
 
 array-right : (depth : ℕ) (one : PlainTree) (after s : List ℕ) → IsArray (type_of one) → CanStand depth one → s ≡ payload one ++ after → IsRight array_length s
-array-right depth (bytes bs) after s array h e = counted-right (length bs) bs after s h e
+array-right depth (bytes bs) after s array h e = counted-right (length bs) bs after s h.0 e
 array-right depth (ints zs) after s array h e = counted-right (length zs) (all_signed w32 zs) after s h.0 e
 array-right depth (longs zs) after s array h e = counted-right (length zs) (all_signed w64 zs) after s h.0 e
 array-right depth (byte z) after s array h e = elim array [ inl t ↦ absurd (omega arith) | inr u ↦ elim u [ inl t ↦ absurd (omega arith) | inr t ↦ absurd (omega arith) ] ]

@@ -12,5 +12,6 @@ pub mod Onward
 pub mod OneFault
 pub mod Beginnings
 pub mod OneOfTwo
+pub mod SpelledBytes
 pub mod Finding
 pub mod Appends

@@ -1,5 +1,5 @@
 -- Bytes have one first fault.
-use Rattle.std.proofs.Common.{◌≡◌, ◌≢◌, ◌<◌, ◌≤◌, ◌+◌, ◌*◌, ◌^◌, ℕ, zero, suc, List, [], ◌∷◌, ◌++◌, length, refl, sym, ap, ◌∙◌, subst, arith, length-append, append_assoc, inl, inr}
+use Rattle.std.proofs.Common.{◌≡◌, ◌≢◌, ◌<◌, ◌≤◌, ◌*◌, ◌^◌, ℕ, zero, suc, List, [], ◌∷◌, ◌++◌, length, refl, sym, ap, ◌∙◌, subst, arith, length-append, append_assoc, inl, inr}
 use Rattle.std.specs.Prelude.{⊤, ◌⊎◌}
 use Rattle.std.specs.Int.{w32}
 use Rattle.std.proofs.lemmas.Bool.{cases_lt}
@@ -11,7 +11,7 @@ use Rattle.nbt.specs.declared.refusals.NbtKind.{NbtKind}
 use Rattle.nbt.specs.declared.refusals.NbtKind.TheVariants.{Truncated, BadType, BadLength, TooDeep, Trailing, RootNotCompound}
 use Rattle.nbt.proofs.Numbers.{length-unsigned}
 use Rattle.nbt.proofs.Unique.{root-same, tail-same}
-use Rattle.nbt.proofs.Excludes.{IsRight, not-wrong, not-cut, nil-absurd, longer-excludes}
+use Rattle.nbt.proofs.Excludes.{IsRight, not-wrong, not-cut, longer-excludes}
 use Rattle.nbt.proofs.Onward.{word, AreFour, has-four, word-bytes, word-small, ComesBehind, begins-behind, right-spelled, right-behind, number-behind, word-behind, GoesOn, goes-on-behind}
 
 -- Two splits of one list: the second is further on by these elements.

@@ -1,19 +1,19 @@
 -- Bytes spell a root or have a first fault: what is begun goes on, part by part, to the one or the other.
-use Rattle.std.proofs.Common.{◌≡◌, ◌<◌, ◌≤◌, ◌-◌, ◌^◌, ℕ, zero, suc, List, [], ◌∷◌, ◌++◌, length, refl, sym, ap, ◌∙◌, subst, arith, append_assoc, inl, inr}
+use Rattle.std.proofs.Common.{◌≡◌, ◌<◌, ◌-◌, ℕ, zero, suc, List, [], ◌∷◌, ◌++◌, length, refl, sym, ap, ◌∙◌, subst, arith, inl, inr}
 use Rattle.std.specs.Prelude.{◌⊎◌}
 use Rattle.std.proofs.lemmas.Bool.{cases_eq}
 use Rattle.std.proofs.lemmas.List.{append-nil}
-use Rattle.nbt.specs.Plain.{PlainRoot, PlainTree, fields_of}
-use Rattle.nbt.specs.Spelling.{short_text, type_of, payload, spelling, max_depth, CanStand, CanBeSpelled, Spells, AreBytes}
-use Rattle.nbt.specs.Faults.{Begun, begun_compound, begun_list, begun_type, begun_name, begun_payload, heading, beginning, MayCome, IsRightSoFar, IsBegun, IsFirstFault}
-use Rattle.nbt.specs.Reading.{grown, closed, IsEnd, IsCompound, IsRootOf, StopsAtNext, StopsAt, work}
+use Rattle.nbt.specs.Plain.{PlainRoot, fields_of}
+use Rattle.nbt.specs.Spelling.{short_text, type_of, payload, spelling, IsText, CanBeSpelled, Spells, AreBytes}
+use Rattle.nbt.specs.Faults.{Begun, begun_compound, begun_list, begun_type, begun_name, begun_payload, heading, beginning, MayCome, IsBegun, IsFirstFault}
+use Rattle.nbt.specs.Reading.{grown, closed, IsEnd, IsCompound, IsRootOf, StopsAt, work}
 use Rattle.nbt.specs.declared.refusals.NbtKind.{NbtKind}
 use Rattle.nbt.specs.declared.refusals.NbtKind.TheVariants.{Truncated, Trailing, RootNotCompound}
 use Rattle.nbt.specs.declared.open.Stop.TheVariants.{At}
 use Rattle.nbt.proofs.Fronts.{IsBytes, is-bytes, bytes-back}
 use Rattle.nbt.proofs.Growing.{root-step, root-compound, Moves, moves-tree, moves-open, moves-end}
 use Rattle.nbt.proofs.Places.{fault-at, empty-cut, name-cut, trailing}
-use Rattle.nbt.proofs.Beginnings.{Stops, Part, whole, opened, IsPart, HasPart, text-cuts, next-front}
+use Rattle.nbt.proofs.Beginnings.{Stops, Part, whole, opened, IsPart, text-cuts, next-front}
 
 abbrev HasFault : List ℕ → Type 0
 HasFault s = (place : ℕ) × (kind : NbtKind) × IsFirstFault s place kind
@@ -92,7 +92,7 @@ root-or : (s : List ℕ) (root : PlainRoot) (rest : List ℕ) → CanBeSpelled r
 root-or s root [] can e = inl (root, (can, e ∙ append-nil (spelling root)))
 root-or s root (b ∷ more) can e = inr (stop-fault s (suc (length more), Trailing, trailing s (b ∷ more) root can e (omega arith)))
 
-named : (name rest s : List ℕ) → length name < 2 ^ 16 → s ≡ 10 ∷ (short_text name ++ rest) → IsBytes s → OneOfTwo s
+named : (name rest s : List ℕ) → IsText name → s ≡ 10 ∷ (short_text name ++ rest) → IsBytes s → OneOfTwo s
 named name rest s short e fits =
     let b = begun_compound name [] in
     let begun : IsBegun (b ∷ []) = (tt, omega arith, (refl, short), tt) in

@@ -1,6 +1,6 @@
 -- What may stand where an item comes: the bytes before it begin a root, and each root that they begin has a right item there.
-use Rattle.std.proofs.Common.{◌≡◌, ◌<◌, ◌≤◌, ◌+◌, ◌-◌, ◌*◌, ◌/◌, ◌^◌, ℕ, zero, suc, ℤ, pos, negsuc, List, [], ◌∷◌, ◌++◌, length, refl, sym, ap, ◌∙◌, subst, arith, append_assoc, inl, inr}
-use Rattle.std.specs.Prelude.{FitsSigned, ◌⊎◌, ◌≤ℤ◌, replicate}
+use Rattle.std.proofs.Common.{◌≡◌, ◌<◌, ◌≤◌, ◌+◌, ◌-◌, ◌*◌, ◌^◌, ℕ, zero, suc, ℤ, pos, negsuc, List, [], ◌∷◌, ◌++◌, length, refl, sym, ap, ◌∙◌, subst, arith, append_assoc, inl, inr}
+use Rattle.std.specs.Prelude.{FitsSigned, ◌≤ℤ◌, replicate}
 use Rattle.std.specs.List.{AllByRecursion}
 use Rattle.std.specs.Int.{Width, w32, w64, byte_at, cast_unsigned}
 use Rattle.std.proofs.lemmas.Bool.{cases_lt}
@@ -13,7 +13,7 @@ use Rattle.nbt.specs.Spelling.{unsigned, signed, short_text, all_signed, type_of
 use Rattle.nbt.specs.Faults.{Begun, begun_compound, begun_list, heading, beginning, MayCome, IsBegun, Item, field_type, element_type, array_length, list_length, IsArray, IsInPayload, IsFieldType, Comes, IsWrongLength, IsLength, Begins}
 use Rattle.nbt.proofs.Numbers.{signed-is}
 use Rattle.nbt.proofs.Unique.{numbers-count}
-use Rattle.nbt.proofs.Fronts.{unsigned-32, IsBytes}
+use Rattle.nbt.proofs.Fronts.{unsigned-32, IsBytes, zeros}
 use Rattle.nbt.proofs.Excludes.{IsRight, rest-of, comes-right}
 use Rattle.nbt.proofs.Places.{complete, finish-list, may-hold, before-begins}
 
@@ -61,7 +61,7 @@ array-with : (depth t n : ℕ) → IsArray t → n < 2 ^ 31 → IsOneWith depth 
 array-with depth t n array low = elim array [
   | inl e ↦
       let few = length-replicate {A = ℕ} n 0 in
-      (bytes (replicate n 0), replicate n 0, sym e, subst (λ (m : ℕ). m < 2 ^ 31) (sym few) low, ap (λ (m : ℕ). unsigned w32 m ++ replicate n 0) few)
+      (bytes (replicate n 0), replicate n 0, sym e, (subst (λ (m : ℕ). m < 2 ^ 31) (sym few) low, zeros n), ap (λ (m : ℕ). unsigned w32 m ++ replicate n 0) few)
   | inr more ↦
       let zs : List ℤ = replicate n (pos 0) in
       let few : length zs ≡ n = length-replicate {A = ℤ} n (pos 0) in
@@ -92,7 +92,7 @@ numbers-with : (depth element n : ℕ) → depth < max_depth → 1 ≤ element �
 numbers-with depth element n room low high few =
     let raw : List ℕ = replicate (n * number_size element) 0 in
     let full : length raw ≡ n * number_size element = length-replicate {A = ℕ} (n * number_size element) 0 in
-    (numbers element raw, raw, refl, (room, low, high, n, full, few), ap (λ (m : ℕ). element ∷ (unsigned w32 m ++ raw)) (numbers-count element n raw full))
+    (numbers element raw, raw, refl, (room, low, high, n, full, few, zeros (n * number_size element)), ap (λ (m : ℕ). element ∷ (unsigned w32 m ++ raw)) (numbers-count element n raw full))
 
 items-with : (begun : List Begun) (name : List ℕ) (element n : ℕ) → IsBegun begun → length begun < max_depth → MayCome begun 9 name → 7 ≤ element → element ≤ 12
     → MayHold (suc (length begun)) element → n < 2 ^ 31 → IsOneWith (length begun) 9 (element ∷ unsigned w32 n)
@@ -195,7 +195,7 @@ field-on (begun_list own element left held ∷ outer) item h at = absurd at
 field-on (begun_compound own held ∷ outer) item h at =
     let plain : MayHold (suc (length outer)) 1 = λ nest. elim nest [ inl e ↦ absurd (omega arith) | inr e ↦ absurd (omega arith) ] in
     let fits : CanStand (suc (length outer)) (byte (pos 0)) = record { sfits = omega arith } in
-    (1, short_text [] ++ payload (byte (pos 0)), omega arith, complete (begun_compound own held ∷ outer) [] (byte (pos 0)) h (omega arith, omega arith, plain, omega arith) fits)
+    (1, short_text [] ++ payload (byte (pos 0)), omega arith, complete (begun_compound own held ∷ outer) [] (byte (pos 0)) h (omega arith, omega arith, plain, (omega arith, tt)) fits)
 
 element-on : (begun : List Begun) (t : ℕ) (name : List ℕ) → IsBegun begun → MayCome begun t name → t ≡ 9 → GoesOn (beginning begun ++ heading begun t name)
 element-on begun t name h come nine =

@@ -33,6 +33,11 @@ pub fn one_root()
     ensures { (bytes : List ℕ) (a b : PlainRoot) → Spells bytes a → Spells bytes b → a ≡ b }
 {}
 
+/// A spelling is bytes: each of its numbers is below 256.
+pub fn a_spelling_is_bytes()
+    ensures { (bytes : List ℕ) (root : PlainRoot) → Spells bytes root → AreBytes bytes }
+{}
+
 /// No spelling is the beginning of another one, so a file says itself where it ends.
 pub fn no_longer_spelling()
     ensures { (a b : PlainRoot) (rest : List ℕ) → CanBeSpelled a → CanBeSpelled b
