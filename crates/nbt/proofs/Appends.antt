@@ -1,10 +1,10 @@
 -- Bytes that are appended one part after the other.
-use Rattle.std.proofs.Common.{◌≡◌, ◌<◌, ◌≤◌, ◌+◌, ◌*◌, ◌^◌, ℕ, ℤ, List, [], ◌∷◌, ◌++◌, length, drop, get_or, map, sym, ap, ◌∙◌, subst, arith, append_assoc, length-append}
+use Rattle.std.proofs.Common.{◌≡◌, ◌<◌, ◌≤◌, ◌+◌, ◌*◌, ℕ, ℤ, List, [], ◌∷◌, ◌++◌, length, drop, get_or, map, sym, ap, ◌∙◌, subst, arith, append_assoc, length-append}
 use Rattle.std.specs.Prelude.{Result, Ok, Err, OnOk, OnErr}
 use Rattle.std.specs.Int.{Width, w32}
 use Rattle.std.proofs.lemmas.List.{drop_more, length-map}
 use Rattle.nbt.specs.Plain.{PlainTree, PlainTrees, PlainFields, PlainField, list, compound, plain_tree, plain_trees, plain_fields}
-use Rattle.nbt.specs.Spelling.{unsigned, signed, all_signed, count, short_text, type_of, payload, item_payloads, field_spellings, CanStand, FieldsCanStand}
+use Rattle.nbt.specs.Spelling.{unsigned, signed, all_signed, count, short_text, type_of, payload, item_payloads, field_spellings, IsText, CanStand, FieldsCanStand}
 use Rattle.nbt.specs.Writing.{IsLonger}
 use Rattle.nbt.specs.declared.trees.Tree.{Tree}
 use Rattle.nbt.specs.declared.trees.Field.{Field}
@@ -50,9 +50,9 @@ pub fields-spelled : (one : Field) (later : List Field)
 fields-spelled one later = ap (λ (f : PlainField). (type_of f.1 ∷ (short_text f.0 ++ payload f.1)) ++ field_spellings (plain_fields later)) (plain-Field one)
 
 pub fields-stand-at : (one : Field) (later : List Field) (d : ℕ) → FieldsCanStand d (plain_fields (one ∷ later))
-    → (length one.name.items.items < 2 ^ 16) × CanStand d (plain_tree one.tree) × FieldsCanStand d (plain_fields later)
+    → IsText one.name.items.items × CanStand d (plain_tree one.tree) × FieldsCanStand d (plain_fields later)
 fields-stand-at one later d h =
-    subst (λ (f : PlainField). (length f.0 < 2 ^ 16) × CanStand d f.1 × FieldsCanStand d (plain_fields later)) (plain-Field one) h
+    subst (λ (f : PlainField). IsText f.0 × CanStand d f.1 × FieldsCanStand d (plain_fields later)) (plain-Field one) h
 
 pub field-pushed : (o0 o1 o2 o3 name body rest : List ℕ) (t : ℕ) → o1 ≡ o0 ++ (t ∷ []) → o2 ≡ o1 ++ name → o3 ≡ o2 ++ body → o3 ++ rest ≡ o0 ++ ((t ∷ (name ++ body)) ++ rest)
 field-pushed o0 o1 o2 o3 name body rest t e f g =

@@ -15,7 +15,7 @@ use Rattle.nbt.specs.declared.refusals.NbtKind.TheVariants.{Truncated, BadType, 
 use Rattle.nbt.specs.declared.open.Stop.{Stop}
 use Rattle.nbt.specs.declared.open.Stop.TheVariants.{At, NoMemory}
 use Rattle.byteorder.specs.Numbers.{big_from-lt}
-use Rattle.nbt.proofs.Fronts.{IsBytes, bytes-front, bytes-back, bytes-zeros, bytes-append, unsigned-8, unsigned-16, unsigned-32, unsigned-64, signed-cast, filled}
+use Rattle.nbt.proofs.Fronts.{IsBytes, bytes-front, bytes-back, bytes-zeros, bytes-append, are-bytes, unsigned-8, unsigned-16, unsigned-32, unsigned-64, signed-cast, filled}
 
 -- a number in two's complement whose bytes these are
 abbrev pub IsNumberOf : Width → List ℕ → Type 0
@@ -43,7 +43,7 @@ abbrev pub AreNumbersOf : Width → ℕ → List ℕ → Type 0
 AreNumbersOf w n raw = (zs : List ℤ) × (length zs ≡ n) × AllByRecursion (FitsSigned w) zs × (all_signed w zs ≡ raw)
 
 module _ (w : Width) (size : ℕ) (one : (raw : List ℕ) → length raw ≡ size → IsBytes raw → IsNumberOf w raw) where
-  numbers-of : (n : ℕ) (raw : List ℕ) → length raw ≡ n * size → IsBytes raw → AreNumbersOf w n raw
+  pub numbers-of : (n : ℕ) (raw : List ℕ) → length raw ≡ n * size → IsBytes raw → AreNumbersOf w n raw
   numbers-of zero [] e h = ([], refl, tt, refl)
   numbers-of zero (b ∷ raw) e h = absurd (omega arith)
   numbers-of (suc n) raw e h =
@@ -77,8 +77,8 @@ number-leaf (suc zero) raw low high e h = let z = number-8 raw e h in (byte z.0,
 number-leaf (suc (suc zero)) raw low high e h = let z = number-16 raw e h in (short z.0, refl, λ depth. z.1, z.2)
 number-leaf (suc (suc (suc zero))) raw low high e h = let z = number-32 raw e h in (int z.0, refl, λ depth. z.1, z.2)
 number-leaf (suc (suc (suc (suc zero)))) raw low high e h = let z = number-64 raw e h in (long z.0, refl, λ depth. z.1, z.2)
-number-leaf (suc (suc (suc (suc (suc zero))))) raw low high e h = (float raw, refl, λ depth. e, refl)
-number-leaf (suc (suc (suc (suc (suc (suc zero)))))) raw low high e h = (double raw, refl, λ depth. e, refl)
+number-leaf (suc (suc (suc (suc (suc zero))))) raw low high e h = (float raw, refl, λ depth. (e, are-bytes raw h), refl)
+number-leaf (suc (suc (suc (suc (suc (suc zero)))))) raw low high e h = (double raw, refl, λ depth. (e, are-bytes raw h), refl)
 number-leaf (suc (suc (suc (suc (suc (suc (suc t))))))) raw low high e h = absurd (omega arith)
 
 bytes-filled : (s : List ℕ) (n : ℕ) → IsBytes s → IsBytes (s ++ (0 ∷ replicate n 0))
@@ -115,7 +115,7 @@ module _ (s rest : List ℕ) (n size : ℕ) (e : s ≡ unsigned w32 n ++ rest) (
   bytes-cut : size ≡ 1 → IsCutLeaf 7 s
   bytes-cut one =
       let count : length whole ≡ n = whole-length ∙ ap (λ (m : ℕ). n * m) one ∙ omega arith in
-      (bytes whole, 0, replicate gap 0, refl, λ depth. subst (λ (m : ℕ). m < 2 ^ 31) (sym count) limit, goes-on (length whole) whole count refl)
+      (bytes whole, 0, replicate gap 0, refl, λ depth. (subst (λ (m : ℕ). m < 2 ^ 31) (sym count) limit, are-bytes whole whole-bytes), goes-on (length whole) whole count refl)
 
   ints-cut : size ≡ 4 → IsCutLeaf 11 s
   ints-cut four =
@@ -175,6 +175,9 @@ pub elements-front : (s row rest : List ℕ) (n count : ℕ) (raw : List ℕ) �
     → s ≡ (unsigned w32 count ++ row) ++ rest
 elements-front s row rest n count raw e c r =
     e ∙ ap (λ (m : ℕ). unsigned w32 m ++ (raw ++ rest)) (sym c) ∙ ap (λ (x : List ℕ). unsigned w32 count ++ (x ++ rest)) (sym r) ∙ sym (append_assoc (unsigned w32 count) row rest)
+
+pub elements-bytes : (s rest raw row : List ℕ) (n : ℕ) → IsBytes s → s ≡ unsigned w32 n ++ (raw ++ rest) → row ≡ raw → IsBytes row
+elements-bytes s rest raw row n h e r = subst IsBytes (sym r) (bytes-front raw rest (bytes-back (unsigned w32 n) (raw ++ rest) (subst IsBytes e h)))
 
 -- a number that was read from these bytes
 signed_at : (w : Width) (n : ℕ) (raw : List ℕ) (z : ℤ) → n < 2 ^ bits w → unsigned w n ≡ raw → z ≡ cast_signed w n → FitsSigned w z × (signed w z ≡ raw)

@@ -13,7 +13,7 @@ use Rattle.nbt.proofs.Numbers.{unsigned-same, signed-is, text-same, length-unsig
 use Rattle.nbt.proofs.Unique.{type-range, tree-same, root-same, numbers-count, tail-same}
 
 -- The rest of a root's spelling behind what is begun: the fields of the inmost that are still to come, or its items.
-abbrev IsRest : List Begun → List ℕ → Type 0
+abbrev pub IsRest : List Begun → List ℕ → Type 0
 IsRest [] rest = (r : PlainRoot) × CanBeSpelled r × (rest ≡ spelling r)
 IsRest (begun_compound name held ∷ outer) rest = (fs : PlainFields) × (after : List ℕ) × FieldsCanStand (suc (length outer)) fs × (rest ≡ field_spellings fs ++ (0 ∷ after))
 IsRest (begun_list name element left held ∷ outer) rest = (ts : PlainTrees) × (after : List ℕ) × (count ts ≡ left) × ItemsCanStand (suc (length outer)) element ts
@@ -27,9 +27,9 @@ next-tree : (begun : List Begun) (t : ℕ) (name rest within : List ℕ) → IsR
     → IsNextTree (length begun) t within
 next-tree [] t name rest within h come e =
     let r = h.0 in
-    let low : length r.name < 2 ^ 16 = h.1.0 in
+    let low : length r.name < 2 ^ 16 = h.1.0.0 in
     let both : short_text r.name ++ payload (compound r.fields) ≡ short_text name ++ within = (tail-same (sym h.2 ∙ e)).1 in
-    let names = text-same r.name name (payload (compound r.fields)) within low come.1 both in
+    let names = text-same r.name name (payload (compound r.fields)) within low come.1.0 both in
     let room : 0 < max_depth = omega arith in
     (compound r.fields, [], sym come.0, (room, h.1.1), sym names.1 ∙ sym (append-nil (payload (compound r.fields))))
 next-tree (begun_compound own held ∷ outer) t name rest within h come e = at h.0 h.2 (sym h.3 ∙ e)
@@ -40,7 +40,7 @@ next-tree (begun_compound own held ∷ outer) t name rest within h come e = at h
         let parts = tail-same f in
         let both : short_text m ++ (payload one ++ (field_spellings fs ++ (0 ∷ h.1))) ≡ short_text name ++ within =
         sym (append_assoc (short_text m ++ payload one) (field_spellings fs) (0 ∷ h.1) ∙ append_assoc (short_text m) (payload one) (field_spellings fs ++ (0 ∷ h.1))) ∙ parts.1 in
-        let names = text-same m name _ within stands.0 come.3 both in
+        let names = text-same m name _ within stands.0.0 come.3.0 both in
         (one, field_spellings fs ++ (0 ∷ h.1), parts.0, stands.1, sym names.1)
 next-tree (begun_list own element left held ∷ outer) t name rest within h come e = at h.0 h.2 h.3 (sym e ∙ h.4)
   where
@@ -59,7 +59,7 @@ peel-fields d d' (f ∷ held) (field m one fs) rest after h stands e =
     let both : short_text f.0 ++ (payload f.1 ++ (field_spellings (fields_of held) ++ rest)) ≡ short_text m ++ (payload one ++ (field_spellings fs ++ (0 ∷ after))) =
     sym (append_assoc (short_text f.0 ++ payload f.1) (field_spellings (fields_of held)) rest ∙ append_assoc (short_text f.0) (payload f.1) (field_spellings (fields_of held) ++ rest))
     ∙ parts.1 ∙ (append_assoc (short_text m ++ payload one) (field_spellings fs) (0 ∷ after) ∙ append_assoc (short_text m) (payload one) (field_spellings fs ++ (0 ∷ after))) in
-    let names = text-same f.0 m _ _ h.0 stands.0 both in
+    let names = text-same f.0 m _ _ h.0.0 stands.0.0 both in
     let first = tree-same d d' f.1 one _ _ h.1 stands.1 parts.0 names.1 in
     peel-fields d d' held fs rest after h.2 stands.2 first.1
 
@@ -125,7 +125,7 @@ into (begun_compound own held) outer rest h next = into-compound own held outer 
 into (begun_list own element left held) outer rest h next = into-list own element left held outer rest next.0 next.1 h next.2 next.3 next.4
 
 -- a root's spelling that starts with what is begun goes on as that asks
-rest-of : (begun : List Begun) (rest s : List ℕ) (r : PlainRoot) → IsBegun begun → s ≡ beginning begun ++ rest → CanBeSpelled r → s ≡ spelling r → IsRest begun rest
+pub rest-of : (begun : List Begun) (rest s : List ℕ) (r : PlainRoot) → IsBegun begun → s ≡ beginning begun ++ rest → CanBeSpelled r → s ≡ spelling r → IsRest begun rest
 rest-of [] rest s r h e can spelled = (r, can, sym e ∙ spelled)
 rest-of (b ∷ outer) rest s r h e can spelled =
     let head : List ℕ = heading outer (begun_type b) (begun_name b) in
@@ -134,10 +134,10 @@ rest-of (b ∷ outer) rest s r h e can spelled =
     into b outer rest h.3 (next-tree outer (begun_type b) (begun_name b) _ (begun_payload b ++ rest) under h.2 refl)
 
 -- An item that is right.
-abbrev IsRightType : ℕ → List ℕ → Type 0
+abbrev pub IsRightType : ℕ → List ℕ → Type 0
 IsRightType depth s = (t : ℕ) × (more : List ℕ) × (s ≡ t ∷ more) × (t ≤ 12) × MayHold depth t
 
-abbrev IsRight : Item → List ℕ → Type 0
+abbrev pub IsRight : Item → List ℕ → Type 0
 IsRight (field_type depth) s = IsRightType depth s
 IsRight (element_type depth) s = IsRightType depth s
 IsRight array_length s = (n : ℕ) × (more : List ℕ) × (s ≡ unsigned w32 n ++ more) × (n < 2 ^ 32) × (IsWrongLength array_length n → ⊥)
@@ -171,7 +171,7 @@ counted-right : (n : ℕ) (row after s : List ℕ) → n < 2 ^ 31 → s ≡ (uns
 counted-right n row after s low e = (n, row ++ after, e ∙ append_assoc (unsigned w32 n) row after, omega arith, λ wrong. omega arith)
 
 array-right : (depth : ℕ) (one : PlainTree) (after s : List ℕ) → IsArray (type_of one) → CanStand depth one → s ≡ payload one ++ after → IsRight array_length s
-array-right depth (bytes bs) after s array h e = counted-right (length bs) bs after s h e
+array-right depth (bytes bs) after s array h e = counted-right (length bs) bs after s h.0 e
 array-right depth (ints zs) after s array h e = counted-right (length zs) (all_signed w32 zs) after s h.0 e
 array-right depth (longs zs) after s array h e = counted-right (length zs) (all_signed w64 zs) after s h.0 e
 array-right depth (byte z) after s array h e = elim array [ inl t ↦ absurd (omega arith) | inr u ↦ elim u [ inl t ↦ absurd (omega arith) | inr t ↦ absurd (omega arith) ] ]
@@ -261,7 +261,7 @@ field-item (begun_compound own held ∷ outer) (list_length k) s h rest = absurd
 field-item (begun_list own element left held ∷ outer) item s h rest = absurd h
 field-item [] item s h rest = absurd h
 
-comes-right : (begun : List Begun) (item : Item) (before s rest : List ℕ) → Comes begun item before → rest ≡ before ++ s → IsRest begun rest → IsRight item s
+pub comes-right : (begun : List Begun) (item : Item) (before s rest : List ℕ) → Comes begun item before → rest ≡ before ++ s → IsRest begun rest → IsRight item s
 comes-right begun item before s rest comes e h = elim comes [
   | inl at ↦ field-item begun item s at.0 (subst (IsRest begun) (e ∙ ap (λ (x : List ℕ). x ++ s) at.1) h)
   | inr at ↦
@@ -286,7 +286,7 @@ right-length item s h m other e limit wrong =
     let same = (unsigned-same w32 h.0 m (omega arith) (omega arith) h.1 other (sym h.2 ∙ e)).0 in
     h.4 (subst (IsWrongLength item) (sym same) wrong)
 
-not-wrong : (kind : NbtKind) (item : Item) (s : List ℕ) → IsRight item s → IsWrong kind item s → ⊥
+pub not-wrong : (kind : NbtKind) (item : Item) (s : List ℕ) → IsRight item s → IsWrong kind item s → ⊥
 not-wrong BadType (field_type d) s h wrong = right-type d s h wrong.0 wrong.1 wrong.2 (inl wrong.3)
 not-wrong BadType (element_type d) s h wrong = right-type d s h wrong.0 wrong.1 wrong.2 (inl wrong.3)
 not-wrong BadType array_length s h wrong = wrong.3
@@ -306,7 +306,7 @@ not-wrong RootNotCompound item s h wrong = wrong
 long-enough : (n : ℕ) (s more : List ℕ) → s ≡ unsigned w32 n ++ more → length s < 4 → ⊥
 long-enough n s more e few = omega (arith, ap length e, length-append (unsigned w32 n) more, length-unsigned w32 n)
 
-not-cut : (item : Item) (s : List ℕ) → IsLength item → IsRight item s → length s < 4 → ⊥
+pub not-cut : (item : Item) (s : List ℕ) → IsLength item → IsRight item s → length s < 4 → ⊥
 not-cut (field_type d) s is h few = is
 not-cut (element_type d) s is h few = is
 not-cut array_length s is h few = long-enough h.0 s h.1 h.2 few
@@ -317,7 +317,7 @@ wrong-excludes kind place s r h can spelled =
     let rest = rest-of h.0 (h.2 ++ h.3) s r h.4 h.8 can spelled in
     not-wrong kind h.1 h.3 (comes-right h.0 h.1 h.2 h.3 (h.2 ++ h.3) h.5 refl rest) h.6
 
-nil-absurd : (b : ℕ) (s : List ℕ) → [] ≡ b ∷ s → ⊥
+pub nil-absurd : (b : ℕ) (s : List ℕ) → [] ≡ b ∷ s → ⊥
 nil-absurd b s e = let n = ap length e in omega arith
 
 -- a spelling that goes on is no spelling

@@ -1,5 +1,5 @@
 -- What stands at the front of bytes, and what bytes that end too early begin.
-use Rattle.std.proofs.Common.{◌≡◌, ◌<◌, ◌+◌, ◌-◌, ◌*◌, ◌^◌, ◌%◌, ℕ, zero, suc, List, [], ◌∷◌, ◌++◌, length, get_or, refl, sym, ap, ◌∙◌, arith, length-append, append_assoc}
+use Rattle.std.proofs.Common.{◌≡◌, ◌<◌, ◌+◌, ◌-◌, ◌*◌, ◌^◌, ◌%◌, ℕ, zero, suc, List, [], ◌∷◌, ◌++◌, length, get_or, refl, sym, ap, ◌∙◌, subst, arith, length-append, append_assoc}
 use Rattle.std.specs.Prelude.{replicate}
 use Rattle.std.specs.Int.{Width, w8, w16, w32, w64, cast_signed}
 use Rattle.std.proofs.lemmas.List.{length-replicate}
@@ -8,12 +8,21 @@ use Rattle.std.proofs.Math.Nat.{mod-eq_of_lt}
 use mir.Val.{bits}
 use Rattle.std.proofs.lemmas.Nat.{be_bytes_2, be_bytes_4, be_bytes_8}
 use Rattle.byteorder.specs.Endian.{big_from}
-use Rattle.nbt.specs.Spelling.{unsigned, signed, short_text}
+use Rattle.nbt.specs.Spelling.{unsigned, signed, short_text, AreBytes}
 use Rattle.nbt.specs.Reading.{IsCutText}
 use Rattle.nbt.proofs.Numbers.{signed-is}
 
 abbrev pub IsBytes : List ℕ → Type 0
 IsBytes bs = (i : ℕ) → get_or bs i 0 < 256
+
+pub is-bytes : (bs : List ℕ) → AreBytes bs → IsBytes bs
+is-bytes [] h i = omega arith
+is-bytes (b ∷ bs) h zero = h.0
+is-bytes (b ∷ bs) h (suc i) = is-bytes bs h.1 i
+
+pub are-bytes : (bs : List ℕ) → IsBytes bs → AreBytes bs
+are-bytes [] h = tt
+are-bytes (b ∷ bs) h = (h 0, are-bytes bs (λ i. h (suc i)))
 
 pub bytes-front : (s t : List ℕ) → IsBytes (s ++ t) → IsBytes s
 bytes-front [] t h i = omega arith
@@ -28,6 +37,10 @@ pub bytes-zeros : (n : ℕ) → IsBytes (replicate n 0)
 bytes-zeros zero i = omega arith
 bytes-zeros (suc n) zero = omega arith
 bytes-zeros (suc n) (suc i) = bytes-zeros n i
+
+pub zeros : (n : ℕ) → AreBytes (replicate n 0)
+zeros zero = tt
+zeros (suc n) = (omega arith, zeros n)
 
 pub bytes-append : (s t : List ℕ) → IsBytes s → IsBytes t → IsBytes (s ++ t)
 bytes-append [] t hs ht i = ht i
@@ -78,23 +91,24 @@ two_bytes a b n ha hb e = ap (unsigned w16) (e ∙ worth) ∙ unsigned-16 (a ∷
 -- a text of which the length or the bytes are cut
 pub cut-text-length : (s : List ℕ) → IsBytes s → length s < 2 → IsCutText s
 unfolding short_text
-cut-text-length [] fits h = ([], 0, 0 ∷ [], omega arith, rw (two_bytes 0 0 0 (omega arith) (omega arith) refl) refl)
+cut-text-length [] fits h = ([], 0, 0 ∷ [], (omega arith, tt), rw (two_bytes 0 0 0 (omega arith) (omega arith) refl) refl)
 cut-text-length (a ∷ []) fits h =
     let many : List ℕ = replicate (256 * a) 0 in
     let full : length many ≡ 256 * a = length-replicate {A = ℕ} (256 * a) 0 in
     let low : a < 256 = fits 0 in
-    (many, 0, many, omega arith, ap (λ (t : List ℕ). t ++ many) (two_bytes a 0 (length many) low (omega arith) (omega arith)))
+    (many, 0, many, (omega arith, zeros (256 * a)), ap (λ (t : List ℕ). t ++ many) (two_bytes a 0 (length many) low (omega arith) (omega arith)))
 cut-text-length (a ∷ b ∷ s) fits h = absurd (omega arith)
 
-pub cut-text-bytes : (s rest : List ℕ) (n : ℕ) → n < 2 ^ 16 → s ≡ unsigned w16 n ++ rest → length rest < n → IsCutText s
+pub cut-text-bytes : (s rest : List ℕ) (n : ℕ) → IsBytes s → n < 2 ^ 16 → s ≡ unsigned w16 n ++ rest → length rest < n → IsCutText s
 unfolding short_text
-cut-text-bytes s rest n fits e low =
+cut-text-bytes s rest n all fits e low =
     let whole = rest ++ (0 ∷ replicate (n - suc (length rest)) 0) in
-    let full : length whole ≡ n = filled rest n low in (
+    let full : length whole ≡ n = filled rest n low in
+    let held : IsBytes whole = bytes-append rest (0 ∷ replicate (n - suc (length rest)) 0) (bytes-back (unsigned w16 n) rest (subst IsBytes e all)) (bytes-zeros (suc (n - suc (length rest)))) in (
       whole,
       0,
       replicate (n - suc (length rest)) 0,
-      omega arith,
+      (omega arith, are-bytes whole held),
       ap (λ (m : ℕ). unsigned w16 m ++ whole) full ∙ sym (append_assoc (unsigned w16 n) rest _) ∙ ap (λ (t : List ℕ). t ++ (0 ∷ replicate (n - suc (length rest)) 0)) (sym e),
     )
 

@@ -3,7 +3,7 @@ use Rattle.std.proofs.Common.{◌≡◌, ◌<◌, ◌≤◌, ◌+◌, ◌-◌, �
 use Rattle.std.proofs.lemmas.List.{append-nil, reverse-append}
 use Rattle.std.specs.Int.{w8, w16, w32, w64}
 use Rattle.nbt.specs.Plain.{PlainTree, PlainField, PlainRoot, byte, short, int, long, float, double, bytes, text, ints, longs, empty_list, numbers, list, compound, trees_of, fields_of}
-use Rattle.nbt.specs.Spelling.{unsigned, short_text, all_signed, type_of, count, payload, item_payloads, field_spellings, spelling, max_depth, CanStand, ItemsCanStand, FieldsCanStand, CanBeSpelled}
+use Rattle.nbt.specs.Spelling.{unsigned, short_text, all_signed, type_of, count, payload, item_payloads, field_spellings, spelling, max_depth, IsText, CanStand, ItemsCanStand, FieldsCanStand, CanBeSpelled}
 use Rattle.nbt.specs.Faults.{Begun, begun_compound, begun_list, begun_type, begun_name, begun_payload, heading, beginning, MayCome, IsRightSoFar, IsBegun}
 use Rattle.nbt.specs.Reading.{plain_open, stack_of, grown, closed, HasRoom, IsEnd, IsCompound, IsRootOf, work}
 use Rattle.nbt.specs.declared.open.Open.{Open}
@@ -21,7 +21,7 @@ pub items-push : (held : List PlainTree) (one : PlainTree) → item_payloads (tr
 items-push [] one = append-nil (payload one)
 items-push (t ∷ held) one = ap (λ (x : List ℕ). payload t ++ x) (items-push held one) ∙ sym (append_assoc (payload t) (item_payloads (trees_of held)) (payload one))
 
-pub fields-stand : (d : ℕ) (held : List PlainField) (name : List ℕ) (one : PlainTree) → FieldsCanStand d (fields_of held) → length name < 2 ^ 16 → CanStand d one
+pub fields-stand : (d : ℕ) (held : List PlainField) (name : List ℕ) (one : PlainTree) → FieldsCanStand d (fields_of held) → IsText name → CanStand d one
     → FieldsCanStand d (fields_of (held ++ (name, one) ∷ []))
 fields-stand d [] name one h low stands = (low, stands, tt)
 fields-stand d (f ∷ held) name one h low stands = (h.0, h.1, fields-stand d held name one h.2 low stands)
@@ -153,8 +153,8 @@ payload-some depth (byte z) h = omega (arith, length-signed w8 z)
 payload-some depth (short z) h = omega (arith, length-signed w16 z)
 payload-some depth (int z) h = omega (arith, length-signed w32 z)
 payload-some depth (long z) h = omega (arith, length-signed w64 z)
-payload-some depth (float raw) h = omega arith
-payload-some depth (double raw) h = omega arith
+payload-some depth (float raw) h = let four = h.0 in omega arith
+payload-some depth (double raw) h = let eight = h.0 in omega arith
 payload-some depth (bytes bs) h = omega (arith, length-append (unsigned w32 (length bs)) bs, length-unsigned w32 (length bs))
 payload-some depth (text bs) h = omega (arith, length-append (unsigned w16 (length bs)) bs, length-unsigned w16 (length bs))
 payload-some depth (ints zs) h = omega (arith, length-append (unsigned w32 (length zs)) (all_signed w32 zs), length-unsigned w32 (length zs))

@@ -8,5 +8,10 @@ pub mod Stacks
 pub mod Growing
 pub mod Places
 pub mod Excludes
+pub mod Onward
+pub mod OneFault
+pub mod Beginnings
+pub mod OneOfTwo
+pub mod SpelledBytes
 pub mod Finding
 pub mod Appends

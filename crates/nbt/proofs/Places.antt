@@ -1,5 +1,5 @@
 -- Where reading stops is the first fault of the bytes.
-use Rattle.std.proofs.Common.{◌≡◌, ◌<◌, ◌≤◌, ◌+◌, ◌-◌, ◌^◌, ℕ, zero, suc, pos, take, List, [], ◌∷◌, ◌++◌, length, refl, sym, ap, ◌∙◌, subst, arith, length-append, append_assoc, inl, inr}
+use Rattle.std.proofs.Common.{◌≡◌, ◌<◌, ◌≤◌, ◌+◌, ◌-◌, ℕ, zero, suc, pos, take, List, [], ◌∷◌, ◌++◌, length, refl, sym, ap, ◌∙◌, subst, arith, length-append, append_assoc, inl, inr}
 use Rattle.std.specs.Prelude.{◌⊎◌}
 use Rattle.std.proofs.Math.Seq.{take-append_seam}
 use Rattle.std.proofs.lemmas.Bool.{cases_lt}
@@ -7,7 +7,7 @@ use Rattle.std.proofs.lemmas.Int.{ints as signs}
 use Rattle.nbt.specs.declared.refusals.NbtKind.{NbtKind}
 use Rattle.std.proofs.lemmas.List.{append-nil}
 use Rattle.nbt.specs.Plain.{PlainTree, PlainRoot, byte, short, int, long, float, double, bytes, text, ints, longs, empty_list, numbers, list, compound, no_trees, no_fields}
-use Rattle.nbt.specs.Spelling.{short_text, type_of, payload, spelling, max_depth, IsNest, MayHold, CanStand, CanBeSpelled}
+use Rattle.nbt.specs.Spelling.{short_text, type_of, payload, spelling, max_depth, IsText, IsNest, MayHold, CanStand, CanBeSpelled}
 use Rattle.nbt.specs.Faults.{Begun, begun_compound, begun_list, begun_type, begun_name, begun_payload, heading, beginning, MayCome, IsBegun, Item, field_type, element_type, array_length, list_length, IsArray, IsInPayload, IsFieldType, Comes, Begins, IsCut, IsCutLength, IsWrongAt, IsFirstFault}
 use Rattle.nbt.specs.Reading.{grown, closed, IsCutText, IsCutNext, StopsAtNext, StopsAt}
 use Rattle.nbt.specs.declared.refusals.NbtKind.TheVariants.{Truncated, BadType, BadLength, TooDeep, Trailing, RootNotCompound}
@@ -17,10 +17,10 @@ use Rattle.nbt.proofs.Growing.{grown-begun, grown-payload, grown-beginning, clos
 use Rattle.nbt.proofs.Stops.{some-tree}
 
 -- what is begun can be finished
-abbrev Finishes : Begun → List Begun → Type 0
+abbrev pub Finishes : Begun → List Begun → Type 0
 Finishes b outer = (t : PlainTree) × (more : List ℕ) × (type_of t ≡ begun_type b) × CanStand (length outer) t × (payload t ≡ begun_payload b ++ more)
 
-finish-list : (own : List ℕ) (element left : ℕ) (held : List PlainTree) (outer : List Begun) → IsBegun (begun_list own element left held ∷ outer) → Finishes (begun_list own element left held) outer
+pub finish-list : (own : List ℕ) (element left : ℕ) (held : List PlainTree) (outer : List Begun) → IsBegun (begun_list own element left held ∷ outer) → Finishes (begun_list own element left held) outer
 finish-list own element zero held outer h =
     let b = begun_list own element zero held in
     let spelled : payload (closed b) ≡ begun_payload b ++ [] = sym (append-nil (payload (closed b))) ∙ sym (closed-payload b outer [] [] (refl, refl)) in
@@ -44,7 +44,7 @@ finish (begun_list own element left held) outer h = finish-list own element left
 finish (begun_compound own held) outer h =
     (closed (begun_compound own held), 0 ∷ [], refl, closed-stands (begun_compound own held) outer (0 ∷ []) [] h refl, refl)
 
-root-begins : (name : List ℕ) (one : PlainTree) → type_of one ≡ 10 → length name < 2 ^ 16 → CanStand 0 one → Begins ((type_of one ∷ short_text name) ++ payload one)
+root-begins : (name : List ℕ) (one : PlainTree) → type_of one ≡ 10 → IsText name → CanStand 0 one → Begins ((type_of one ∷ short_text name) ++ payload one)
 root-begins name (compound fs) t low stands = (record { name = name; fields = fs }, [], (low, stands.1), sym (append-nil ((10 ∷ short_text name) ++ payload (compound fs))))
 root-begins name (byte z) t low stands = absurd (omega arith)
 root-begins name (short z) t low stands = absurd (omega arith)
@@ -130,7 +130,7 @@ pub empty-cut : (s : List ℕ) → length s ≡ 0 → StopsAt s (At 0 Truncated)
 empty-cut s e =
     let r : PlainRoot = record { name = []; fields = no_fields } in
     let more : List ℕ = short_text [] ++ payload (compound no_fields) in
-    (omega arith, (omega arith, inl (r, 10, more, (omega arith, tt), ap (λ (x : List ℕ). x ++ (10 ∷ more)) (sym (nil-of s e)))))
+    (omega arith, (omega arith, inl (r, 10, more, ((omega arith, tt), tt), ap (λ (x : List ℕ). x ++ (10 ∷ more)) (sym (nil-of s e)))))
 
 pub name-cut : (s rest : List ℕ) → s ≡ 10 ∷ rest → IsCutText rest → StopsAt s (At 0 Truncated)
 name-cut s rest e cut =
@@ -150,7 +150,7 @@ trailing s (b ∷ more) r h e some =
 
 -- What comes before a fault begins some root.
 module _ (begun : List Begun) where
-  some-begins : IsBegun begun → (b : Begun) (outer : List Begun) → begun ≡ b ∷ outer → Begins (beginning begun)
+  pub some-begins : IsBegun begun → (b : Begun) (outer : List Begun) → begun ≡ b ∷ outer → Begins (beginning begun)
   some-begins h b outer e =
       let whole = finish b outer (subst IsBegun e h) in
       let h' = subst IsBegun e h in
@@ -168,7 +168,7 @@ module _ (begun : List Begun) where
 -- an item's beginning in some payload
 array-front : (t depth : ℕ) → IsArray t → (one : PlainTree) × (type_of one ≡ t) × CanStand depth one
 array-front t depth array = elim array [
-  | inl e ↦ (bytes [], sym e, omega arith)
+  | inl e ↦ (bytes [], sym e, (omega arith, tt))
   | inr more ↦ elim more [
     | inl e ↦ (ints [], sym e, (omega arith, tt))
     | inr e ↦ (longs [], sym e, (omega arith, tt))
@@ -178,7 +178,7 @@ array-front t depth array = elim array [
 list-front : (depth element : ℕ) → depth < max_depth → element ≤ 12 → MayHold (suc depth) element → (one : PlainTree) × (more : List ℕ) × (type_of one ≡ 9) × CanStand depth one × (payload one ≡ element ∷ more)
 list-front depth zero room known hold = (empty_list (pos 0), _, refl, (room, record { sfits = omega arith }, omega (arith, signs)), refl)
 list-front depth (suc k) room known hold = elim (cases_lt k 6) [
-  | inl low ↦ (numbers (suc k) [], _, refl, (room, omega arith, omega arith, 0, omega arith, omega arith), refl)
+  | inl low ↦ (numbers (suc k) [], _, refl, (room, omega arith, omega arith, 0, omega arith, omega arith, tt), refl)
   | inr high ↦ (list (suc k) no_trees, _, refl, (room, omega arith, known, hold, omega arith, tt), refl)
 ]
 
@@ -196,12 +196,12 @@ within-begins depth t (list_length element) within hold h =
     let one = list-front depth element (hold (inl h.0)) h.1 h.2 in
     (one.0, one.1, one.2 ∙ sym h.0, one.3, one.4 ∙ ap (λ (x : List ℕ). x ++ one.1) (sym h.3))
 
-may-hold : (begun : List Begun) (t : ℕ) (name : List ℕ) → IsBegun begun → MayCome begun t name → MayHold (length begun) t
+pub may-hold : (begun : List Begun) (t : ℕ) (name : List ℕ) → IsBegun begun → MayCome begun t name → MayHold (length begun) t
 may-hold [] t name h come nest = omega arith
 may-hold (begun_compound own held ∷ outer) t name h come nest = come.2 nest
 may-hold (begun_list own element left held ∷ outer) t name h come nest = h.3.2 (subst IsNest come.0 nest)
 
-before-begins : (begun : List Begun) (item : Item) (before : List ℕ) → IsBegun begun → Comes begun item before → Begins (beginning begun ++ before)
+pub before-begins : (begun : List Begun) (item : Item) (before : List ℕ) → IsBegun begun → Comes begun item before → Begins (beginning begun ++ before)
 before-begins begun item before h comes = elim comes [
   | inl at ↦ field-begins begun item h at.0 (sym (append-nil (beginning begun)) ∙ ap (λ (x : List ℕ). beginning begun ++ x) (sym at.1))
   | inr at ↦
@@ -234,7 +234,7 @@ wrong-first kind place s h =
 pub fault-first : (s : List ℕ) (place : ℕ) (kind : NbtKind) → IsFirstFault s place kind → Begins (take place s) ⊎ IsCutLength s
 fault-first s place RootNotCompound h =
     let r : PlainRoot = record { name = []; fields = no_fields } in
-    inl (r, spelling r, (omega arith, tt), ap (λ (n : ℕ). take n s ++ spelling r) (sym h.0))
+    inl (r, spelling r, ((omega arith, tt), tt), ap (λ (n : ℕ). take n s ++ spelling r) (sym h.0))
 fault-first s place Trailing h = inl (subst Begins (sym (front-is s (spelling h.0) (h.1 ∷ h.2) place h.4 h.5)) (h.0, [], h.3, sym (append-nil (spelling h.0))))
 fault-first s place BadType h = inl (wrong-first BadType place s h)
 fault-first s place TooDeep h = inl (wrong-first TooDeep place s h)

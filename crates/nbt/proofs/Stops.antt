@@ -4,7 +4,7 @@ use Rattle.std.specs.Prelude.{FitsSigned, replicate, ◌≤ℤ◌}
 use Rattle.std.specs.Int.{w32, cast_signed}
 use Rattle.std.proofs.lemmas.Int.{ints as signs}
 use Rattle.nbt.specs.Plain.{PlainTree, PlainField, byte, short, int, long, float, double, bytes, text, ints, longs, empty_list, numbers, compound, no_fields, plain_tree}
-use Rattle.nbt.specs.Spelling.{unsigned, signed, short_text, type_of, number_size, payload, max_depth, MayHold, CanStand}
+use Rattle.nbt.specs.Spelling.{unsigned, signed, short_text, type_of, number_size, payload, max_depth, IsText, MayHold, CanStand}
 use Rattle.nbt.specs.Faults.{Begun, begun_compound, begun_type, begun_name, begun_payload, heading, MayCome, IsRightSoFar, IsInPayload, Comes, IsWrong, IsWrongLength, IsLength, Item, field_type, element_type, list_length}
 use Rattle.nbt.specs.Reading.{IsCutText, IsCutPayload, IsPayload, IsPieceOf, IsNext, StopsAtType, StopsAtEmpty, StopsAtLength, StopsAtElements, StopsInPayload, StopsAtNext, plain_open}
 use Rattle.nbt.specs.declared.refusals.NbtKind.TheVariants.{Truncated, BadType, BadLength, TooDeep, Trailing, RootNotCompound}
@@ -12,7 +12,7 @@ use Rattle.nbt.specs.declared.open.Piece.{Piece}
 use Rattle.nbt.specs.declared.open.Piece.TheVariants.{Tree, Open as Opened, End}
 use Rattle.nbt.specs.declared.open.Stop.{Stop}
 use Rattle.nbt.specs.declared.open.Stop.TheVariants.{At, NoMemory}
-use Rattle.nbt.proofs.Fronts.{filled, signed-cast}
+use Rattle.nbt.proofs.Fronts.{IsBytes, bytes-back, bytes-zeros, bytes-append, are-bytes, zeros, filled, signed-cast}
 use Rattle.nbt.proofs.Unique.{numbers-count}
 
 zero_at_most : pos 0 ≤ℤ pos 0
@@ -25,10 +25,10 @@ some-tree (suc zero) depth low high hold = (byte (pos 0), refl, record { sfits =
 some-tree (suc (suc zero)) depth low high hold = (short (pos 0), refl, record { sfits = omega arith })
 some-tree (suc (suc (suc zero))) depth low high hold = (int (pos 0), refl, record { sfits = omega arith })
 some-tree (suc (suc (suc (suc zero)))) depth low high hold = (long (pos 0), refl, record { sfits = omega arith })
-some-tree (suc (suc (suc (suc (suc zero))))) depth low high hold = (float (0 ∷ 0 ∷ 0 ∷ 0 ∷ []), refl, refl)
-some-tree (suc (suc (suc (suc (suc (suc zero)))))) depth low high hold = (double (0 ∷ 0 ∷ 0 ∷ 0 ∷ 0 ∷ 0 ∷ 0 ∷ 0 ∷ []), refl, refl)
-some-tree (suc (suc (suc (suc (suc (suc (suc zero))))))) depth low high hold = (bytes [], refl, omega arith)
-some-tree (suc (suc (suc (suc (suc (suc (suc (suc zero)))))))) depth low high hold = (text [], refl, omega arith)
+some-tree (suc (suc (suc (suc (suc zero))))) depth low high hold = (float (replicate 4 0), refl, (refl, zeros 4))
+some-tree (suc (suc (suc (suc (suc (suc zero)))))) depth low high hold = (double (replicate 8 0), refl, (refl, zeros 8))
+some-tree (suc (suc (suc (suc (suc (suc (suc zero))))))) depth low high hold = (bytes [], refl, (omega arith, tt))
+some-tree (suc (suc (suc (suc (suc (suc (suc (suc zero)))))))) depth low high hold = (text [], refl, (omega arith, tt))
 some-tree (suc (suc (suc (suc (suc (suc (suc (suc (suc zero))))))))) depth low high hold = (empty_list (pos 0), refl, (hold (inl refl), record { sfits = omega arith }, zero_at_most))
 some-tree (suc (suc (suc (suc (suc (suc (suc (suc (suc (suc zero)))))))))) depth low high hold = (compound no_fields, refl, (hold (inr refl), tt))
 some-tree (suc (suc (suc (suc (suc (suc (suc (suc (suc (suc (suc zero))))))))))) depth low high hold = (ints [], refl, (omega arith, tt))
@@ -84,30 +84,31 @@ module _ (depth element : ℕ) (s rest : List ℕ) (known : element ≤ 12) (hol
   list-items (At left RootNotCompound) low h = absurd h
 
   -- the numbers of a list are cut
-  numbers-cut : depth < max_depth → 1 ≤ element → element ≤ 6 → (n : ℕ) (few : List ℕ) → rest ≡ unsigned w32 n ++ few → n < 2 ^ 31 → length few < n * number_size element
+  numbers-cut : IsBytes rest → depth < max_depth → 1 ≤ element → element ≤ 6 → (n : ℕ) (few : List ℕ) → rest ≡ unsigned w32 n ++ few → n < 2 ^ 31 → length few < n * number_size element
       → IsCutPayload depth 9 s
-  numbers-cut room low high n few f limit lacks =
+  numbers-cut all room low high n few f limit lacks =
       let gap : ℕ = n * number_size element - suc (length few) in
       let more : List ℕ = replicate gap 0 in
       let whole : List ℕ = few ++ (0 ∷ more) in
       let full : length whole ≡ n * number_size element = filled few (n * number_size element) lacks in
+      let held : IsBytes whole = bytes-append few (0 ∷ more) (bytes-back (unsigned w32 n) few (subst IsBytes f all)) (bytes-zeros (suc gap)) in
       let spelled : element ∷ (unsigned w32 (length whole / number_size element) ++ whole) ≡ s ++ (0 ∷ more) =
       ap (λ (m : ℕ). element ∷ (unsigned w32 m ++ whole)) (numbers-count element n whole full) ∙ ap (λ (x : List ℕ). element ∷ x) (sym (append_assoc (unsigned w32 n) few (0 ∷ more)))
       ∙ ap (λ (x : List ℕ). element ∷ (x ++ (0 ∷ more))) (sym f) ∙ ap (λ (x : List ℕ). x ++ (0 ∷ more)) (sym e) in
-      (numbers element whole, 0, more, refl, (room, low, high, n, full, limit), spelled)
+      (numbers element whole, 0, more, refl, (room, low, high, n, full, limit, are-bytes whole held), spelled)
 
-  pub list-numbers : (stop : Stop) → depth < max_depth → 1 ≤ element → element ≤ 6 → StopsAtElements (number_size element) rest stop → StopsInPayload depth 9 s stop
-  list-numbers NoMemory room low high h = tt
-  list-numbers (At left Truncated) room low high h = elim h.1 [
+  pub list-numbers : (stop : Stop) → IsBytes rest → depth < max_depth → 1 ≤ element → element ≤ 6 → StopsAtElements (number_size element) rest stop → StopsInPayload depth 9 s stop
+  list-numbers NoMemory all room low high h = tt
+  list-numbers (At left Truncated) all room low high h = elim h.1 [
     | inl few ↦ (h.0, inr (length-cut few))
-    | inr lacks ↦ (h.0, inl (numbers-cut room low high lacks.0 lacks.1 lacks.2 lacks.3 lacks.4))
+    | inr lacks ↦ (h.0, inl (numbers-cut all room low high lacks.0 lacks.1 lacks.2 lacks.3 lacks.4))
   ]
-  list-numbers (At left BadLength) room low high h =
+  list-numbers (At left BadLength) all room low high h =
       (list_length element, element ∷ [], rest, (refl, known, hold, refl), (h.1.0, h.1.1, h.1.2, h.1.3, wrong-length element h.1.0 low h.1.4), h.0, e)
-  list-numbers (At left BadType) room low high h = absurd h
-  list-numbers (At left TooDeep) room low high h = absurd h
-  list-numbers (At left Trailing) room low high h = absurd h
-  list-numbers (At left RootNotCompound) room low high h = absurd h
+  list-numbers (At left BadType) all room low high h = absurd h
+  list-numbers (At left TooDeep) all room low high h = absurd h
+  list-numbers (At left Trailing) all room low high h = absurd h
+  list-numbers (At left RootNotCompound) all room low high h = absurd h
 
 -- The element types that hold no compound and no list may stand anywhere.
 pub no-nest : (depth t : ℕ) → t ≢ 9 → t ≢ 10 → MayHold depth t
@@ -122,7 +123,7 @@ module _ (name : List ℕ) (held : List PlainField) (outer : List Begun) (s : Li
   field-type d (At left Truncated) e h =
       let fits : FitsSigned w32 (pos 0) = record { sfits = omega arith } in
       let more : List ℕ = short_text [] ++ payload (int (pos 0)) in
-      (h.0, inl ([], int (pos 0), 3, more, (omega arith, omega arith, no-nest _ 3 (omega arith) (omega arith), omega arith), fits, ap (λ (x : List ℕ). x ++ (3 ∷ more)) (sym h.1)))
+      (h.0, inl ([], int (pos 0), 3, more, (omega arith, omega arith, no-nest _ 3 (omega arith) (omega arith), (omega arith, tt)), fits, ap (λ (x : List ℕ). x ++ (3 ∷ more)) (sym h.1)))
   field-type d (At left BadType) e h = (field_type d, [], s, inl (e, refl), (h.1, h.2, h.3, h.4), h.0, refl)
   field-type d (At left TooDeep) e h = (field_type d, [], s, inl (e, refl), (h.1, h.2, h.3, (h.4, h.5)), h.0, refl)
   field-type d (At left BadLength) e h = absurd h
@@ -137,7 +138,7 @@ module _ (name : List ℕ) (held : List PlainField) (outer : List Begun) (s : Li
       let whole : (type_of one.0 ∷ short_text cut.0) ++ payload one.0 ≡ s ++ (cut.1 ∷ after) =
       ap (λ (k : ℕ). (k ∷ short_text cut.0) ++ payload one.0) one.1 ∙ ap (λ (x : List ℕ). t ∷ (x ++ payload one.0)) cut.4
       ∙ ap (λ (x : List ℕ). t ∷ x) (append_assoc rest (cut.1 ∷ cut.2) (payload one.0)) ∙ ap (λ (x : List ℕ). x ++ (cut.1 ∷ after)) (sym e) in
-      (refl, inl (cut.0, one.0, cut.1, after, subst (λ (k : ℕ). (1 ≤ k) × (k ≤ 12) × MayHold (suc (length outer)) k × (length cut.0 < 2 ^ 16)) (sym one.1) (low, high, hold, cut.3), one.2, whole))
+      (refl, inl (cut.0, one.0, cut.1, after, subst (λ (k : ℕ). (1 ≤ k) × (k ≤ 12) × MayHold (suc (length outer)) k × IsText cut.0) (sym one.1) (low, high, hold, cut.3), one.2, whole))
 
 -- a payload that stops, behind its heading
 module _ (begun : List Begun) (t : ℕ) (name : List ℕ) (s rest : List ℕ) (come : MayCome begun t name) (e : s ≡ heading begun t name ++ rest) where

@@ -60,10 +60,10 @@ mutual
   tree-same d d' (short a) (short b) x y ha hb t e = same-of short (signed-same w16 a b x y ha hb e)
   tree-same d d' (int a) (int b) x y ha hb t e = same-of int (signed-same w32 a b x y ha hb e)
   tree-same d d' (long a) (long b) x y ha hb t e = same-of long (signed-same w64 a b x y ha hb e)
-  tree-same d d' (float a) (float b) x y ha hb t e = same-of float (split_same a b x y (ha ∙ sym hb) e)
-  tree-same d d' (double a) (double b) x y ha hb t e = same-of double (split_same a b x y (ha ∙ sym hb) e)
-  tree-same d d' (bytes a) (bytes b) x y ha hb t e = same-of bytes (counted-same w32 a b x y (omega arith) (omega arith) e)
-  tree-same d d' (text a) (text b) x y ha hb t e = same-of text (text-same a b x y ha hb e)
+  tree-same d d' (float a) (float b) x y ha hb t e = same-of float (split_same a b x y (ha.0 ∙ sym hb.0) e)
+  tree-same d d' (double a) (double b) x y ha hb t e = same-of double (split_same a b x y (ha.0 ∙ sym hb.0) e)
+  tree-same d d' (bytes a) (bytes b) x y ha hb t e = let low = ha.0 in let high = hb.0 in same-of bytes (counted-same w32 a b x y (omega arith) (omega arith) e)
+  tree-same d d' (text a) (text b) x y ha hb t e = same-of text (text-same a b x y ha.0 hb.0 e)
   tree-same d d' (ints a) (ints b) x y ha hb t e =
       same-of ints (array-same w32 a b x y ha.0 hb.0 (λ n h. all-same w32 a b x y n ha.1 hb.1 h) e)
   tree-same d d' (longs a) (longs b) x y ha hb t e =
@@ -128,7 +128,7 @@ mutual
   fields-same d d' (field m a ms) (field n b ns) x y ha hb e =
       let parts = tail-same e in
       let e' : short_text m ++ (payload a ++ (field_spellings ms ++ (0 ∷ x))) ≡ short_text n ++ (payload b ++ (field_spellings ns ++ (0 ∷ y))) = sym (three m a _ _) ∙ parts.1 ∙ three n b _ _ in
-      let names = text-same m n _ _ ha.0 hb.0 e' in
+      let names = text-same m n _ _ ha.0.0 hb.0.0 e' in
       let first = tree-same d d' a b _ _ ha.1 hb.1 parts.0 names.1 in
       let later = fields-same d d' ms ns x y ha.2 hb.2 first.1 in
       let called : m ≡ n = names.0 in
@@ -140,7 +140,7 @@ mutual
 pub root-same : (a b : PlainRoot) (x y : List ℕ) → CanBeSpelled a → CanBeSpelled b → spelling a ++ x ≡ spelling b ++ y → Same a b x y
 root-same a b x y ha hb e =
     let e' : short_text a.name ++ (payload (compound a.fields) ++ x) ≡ short_text b.name ++ (payload (compound b.fields) ++ y) = sym (append_assoc (short_text a.name) _ x) ∙ (tail-same e).1 ∙ append_assoc (short_text b.name) _ y in
-    let names = text-same a.name b.name _ _ ha.0 hb.0 e' in
+    let names = text-same a.name b.name _ _ ha.0.0 hb.0.0 e' in
     let inner = tree-same 0 0 (compound a.fields) (compound b.fields) x y (omega arith, ha.1) (omega arith, hb.1) refl names.1 in
     let called : a.name ≡ b.name = names.0 in
     let held : a.fields ≡ b.fields = cc (inner.0) in

@@ -2,7 +2,7 @@
 use Rattle.std.specs.Prelude.{◌≡◌, ◌≢◌, ◌<◌, ◌≤◌, ◌+◌, ◌^◌, ℕ, zero, suc, List, [], ◌∷◌, ◌++◌, length, ⊤, ◌⊎◌}
 use Rattle.std.specs.Int.{w32}
 use Rattle.nbt.specs.Plain.{PlainTree, PlainField, PlainRoot, trees_of, fields_of}
-use Rattle.nbt.specs.Spelling.{unsigned, short_text, item_payloads, field_spellings, spelling, max_depth, IsNest, MayHold, ItemsCanStand, FieldsCanStand, CanBeSpelled}
+use Rattle.nbt.specs.Spelling.{unsigned, short_text, item_payloads, field_spellings, spelling, max_depth, IsText, IsNest, MayHold, ItemsCanStand, FieldsCanStand, CanBeSpelled}
 use Rattle.nbt.specs.declared.refusals.NbtRefusal.{NbtRefusal}
 use Rattle.nbt.specs.declared.refusals.NbtRefusal.TheVariants.{At, NoMemory}
 use Rattle.nbt.specs.declared.refusals.NbtKind.{NbtKind}
@@ -42,8 +42,8 @@ beginning (b ∷ outer) = beginning outer ++ (heading outer (begun_type b) (begu
 
 -- A tree of this type, under this name, may come next.
 abbrev pub MayCome : List Begun → ℕ → List ℕ → Type 0
-MayCome [] t name = (t ≡ 10) × (length name < 2 ^ 16)
-MayCome (begun_compound _ _ ∷ outer) t name = (1 ≤ t) × (t ≤ 12) × MayHold (suc (length outer)) t × (length name < 2 ^ 16)
+MayCome [] t name = (t ≡ 10) × IsText name
+MayCome (begun_compound _ _ ∷ outer) t name = (1 ≤ t) × (t ≤ 12) × MayHold (suc (length outer)) t × IsText name
 MayCome (begun_list _ element left _ ∷ outer) t name = (t ≡ element) × (0 < left) × (name ≡ [])
 
 -- What stands in a compound or a list of this depth so far may stand there.

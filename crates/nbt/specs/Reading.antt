@@ -2,7 +2,7 @@
 use Rattle.std.specs.Prelude.{◌≡◌, ◌<◌, ◌≤◌, ◌+◌, ◌-◌, ◌*◌, ◌^◌, ℕ, suc, List, [], ◌∷◌, ◌++◌, length, map, reverse, ⊤, ◌⊎◌}
 use Rattle.std.specs.Int.{w32}
 use Rattle.nbt.specs.Plain.{PlainTree, PlainRoot, list, compound, trees_of, fields_of, plain_tree, plain_field, plain_root}
-use Rattle.nbt.specs.Spelling.{unsigned, short_text, type_of, payload, max_depth, IsNest, CanStand, CanBeSpelled, spelling}
+use Rattle.nbt.specs.Spelling.{unsigned, short_text, type_of, payload, max_depth, IsText, IsNest, CanStand, CanBeSpelled, spelling}
 use Rattle.nbt.specs.Faults.{Begun, begun_compound, begun_list, begun_type, begun_name, begun_payload, heading, beginning, IsBegun, IsFirstFault, MayCome, IsRightSoFar, IsArray, Item, IsInPayload, Comes, IsWrong, IsLength}
 use Rattle.nbt.specs.declared.refusals.NbtKind.{NbtKind}
 use Rattle.nbt.specs.declared.refusals.NbtKind.TheVariants.{Truncated, BadType, BadLength, TooDeep}
@@ -26,7 +26,7 @@ stack_of top outer = plain_open top ∷ map plain_open (reverse outer)
 
 -- A text of two bytes of length goes on behind these bytes.
 abbrev pub IsCutText : List ℕ → Type 0
-IsCutText bs = (t : List ℕ) × (b : ℕ) × (more : List ℕ) × (length t < 2 ^ 16) × (short_text t ≡ bs ++ (b ∷ more))
+IsCutText bs = (t : List ℕ) × (b : ℕ) × (more : List ℕ) × IsText t × (short_text t ≡ bs ++ (b ∷ more))
 
 -- The bytes start with the payload of a tree of this type that may stand in anything.
 abbrev pub IsLeaf : ℕ → List ℕ → PlainTree → List ℕ → Type 0

@@ -74,6 +74,14 @@ abbrev mutual
 abbrev pub spelling : PlainRoot → List ℕ
 spelling r = 10 ∷ (short_text r.name ++ payload (compound r.fields))
 
+-- Every one of these numbers is a byte.
+abbrev pub AreBytes : List ℕ → Type 0
+AreBytes bs = AllByRecursion (λ b. b < 256) bs
+
+-- a name or a text
+abbrev pub IsText : List ℕ → Type 0
+IsText bs = (length bs < 2 ^ 16) × AreBytes bs
+
 -- how deep compounds and lists may stand in one another
 abbrev pub max_depth : ℕ
 max_depth = 512
@@ -93,15 +101,15 @@ abbrev mutual
   CanStand depth (short z) = FitsSigned w16 z
   CanStand depth (int z) = FitsSigned w32 z
   CanStand depth (long z) = FitsSigned w64 z
-  CanStand depth (float raw) = length raw ≡ 4
-  CanStand depth (double raw) = length raw ≡ 8
-  CanStand depth (bytes bs) = length bs < 2 ^ 31
-  CanStand depth (text bs) = length bs < 2 ^ 16
+  CanStand depth (float raw) = (length raw ≡ 4) × AreBytes raw
+  CanStand depth (double raw) = (length raw ≡ 8) × AreBytes raw
+  CanStand depth (bytes bs) = (length bs < 2 ^ 31) × AreBytes bs
+  CanStand depth (text bs) = IsText bs
   CanStand depth (ints zs) = (length zs < 2 ^ 31) × AllByRecursion (FitsSigned w32) zs
   CanStand depth (longs zs) = (length zs < 2 ^ 31) × AllByRecursion (FitsSigned w64) zs
   CanStand depth (empty_list z) = (depth < max_depth) × FitsSigned w32 z × (z ≤ℤ pos 0)
   CanStand depth (numbers element raw) = (depth < max_depth) × (1 ≤ element) × (element ≤ 6)
-      × (n : ℕ) × (length raw ≡ n * number_size element) × (n < 2 ^ 31)
+      × (n : ℕ) × (length raw ≡ n * number_size element) × (n < 2 ^ 31) × AreBytes raw
   CanStand depth (list element items) = (depth < max_depth) × (7 ≤ element) × (element ≤ 12) × MayHold (suc depth) element
       × (count items < 2 ^ 31) × ItemsCanStand (suc depth) element items
   CanStand depth (compound fs) = (depth < max_depth) × FieldsCanStand (suc depth) fs
@@ -112,11 +120,11 @@ abbrev mutual
 
   pub FieldsCanStand : ℕ → PlainFields → Type 0
   FieldsCanStand depth no_fields = ⊤
-  FieldsCanStand depth (field name t fs) = (length name < 2 ^ 16) × CanStand depth t × FieldsCanStand depth fs
+  FieldsCanStand depth (field name t fs) = IsText name × CanStand depth t × FieldsCanStand depth fs
 
 -- The root has depth 1.
 abbrev pub CanBeSpelled : PlainRoot → Type 0
-CanBeSpelled r = (length r.name < 2 ^ 16) × FieldsCanStand 1 r.fields
+CanBeSpelled r = IsText r.name × FieldsCanStand 1 r.fields
 
 -- The bytes spell the root.
 abbrev pub Spells : List ℕ → PlainRoot → Type 0

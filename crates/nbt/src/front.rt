@@ -2,7 +2,7 @@
 
 ghost use Rattle.std.specs.Prelude.{◌≡◌, ◌<◌, ◌^◌, ◌++◌, length, IfSome, IfNone};
 ghost use Rattle.std.specs.Int.{w16, w32};
-ghost use Rattle.nbt.specs.Spelling.{unsigned, short_text};
+ghost use Rattle.nbt.specs.Spelling.{unsigned, short_text, IsText};
 ghost use Rattle.nbt.specs.Reading.{IsCutText};
 
 use byteorder::{BigEndian, ByteOrder};
@@ -42,7 +42,7 @@ pub fn cut_u32(bytes: &[u8]) -> Option<(u32, &[u8])>
 /// A name or a text.
 pub fn cut_text(bytes: &[u8]) -> Option<(&[u8], &[u8])>
     ensures some { IfSome result (λ x. bytes.now ≡ short_text x.0.now ++ x.1.now) }
-    ensures short { IfSome result (λ x. length x.0.now < 2 ^ 16) }
+    ensures text { IfSome result (λ x. IsText x.0.now) }
     ensures none { IfNone result (IsCutText bytes.now) }
 {
     let (count, rest) = cut_u16(bytes)?;

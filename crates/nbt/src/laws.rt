@@ -3,7 +3,7 @@
 
 ghost use Rattle.std.specs.Prelude.{◌≡◌, ℕ, List, [], ◌++◌, take, ◌⊎◌, IfOk};
 ghost use Rattle.nbt.specs.Plain.{PlainRoot, plain_root};
-ghost use Rattle.nbt.specs.Spelling.{spelling, CanBeSpelled, Spells};
+ghost use Rattle.nbt.specs.Spelling.{spelling, CanBeSpelled, Spells, AreBytes};
 ghost use Rattle.nbt.specs.Faults.{IsFirstFault, Begins, IsCutLength};
 ghost use Rattle.nbt.specs.declared.refusals.NbtKind.{NbtKind};
 
@@ -33,6 +33,11 @@ pub fn one_root()
     ensures { (bytes : List ℕ) (a b : PlainRoot) → Spells bytes a → Spells bytes b → a ≡ b }
 {}
 
+/// A spelling is bytes: each of its numbers is below 256.
+pub fn a_spelling_is_bytes()
+    ensures { (bytes : List ℕ) (root : PlainRoot) → Spells bytes root → AreBytes bytes }
+{}
+
 /// No spelling is the beginning of another one, so a file says itself where it ends.
 pub fn no_longer_spelling()
     ensures { (a b : PlainRoot) (rest : List ℕ) → CanBeSpelled a → CanBeSpelled b
@@ -50,4 +55,18 @@ pub fn a_fault_excludes()
 pub fn a_fault_is_the_first()
     ensures { (bytes : List ℕ) (place : ℕ) (kind : NbtKind) → IsFirstFault bytes place kind
         → Begins (take place bytes) ⊎ IsCutLength bytes }
+{}
+
+/// Bytes spell a root, or have a first fault. `a_fault_excludes` says that they never do both.
+pub fn a_root_or_a_fault()
+    ensures { (bytes : List ℕ) → AreBytes bytes
+        → ((root : PlainRoot) × Spells bytes root)
+        ⊎ ((place : ℕ) × (kind : NbtKind) × IsFirstFault bytes place kind) }
+{}
+
+/// Bytes have one first fault at most: one place and one kind.
+pub fn one_first_fault()
+    ensures { (bytes : List ℕ) (place other : ℕ) (kind also : NbtKind)
+        → IsFirstFault bytes place kind → IsFirstFault bytes other also
+        → (place ≡ other) × (kind ≡ also) }
 {}

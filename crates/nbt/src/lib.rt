@@ -16,7 +16,8 @@ mod writer;
 
 pub use fields::find_field;
 pub use laws::{
-    a_fault_excludes, a_fault_is_the_first, no_longer_spelling, one_root, written_is_read,
+    a_fault_excludes, a_fault_is_the_first, a_root_or_a_fault, a_spelling_is_bytes,
+    no_longer_spelling, one_first_fault, one_root, written_is_read,
 };
 pub use reader::read;
 pub use refusals::{NbtKind, NbtRefusal};

@@ -1,8 +1,8 @@
 //! The reader: it keeps the open compounds and lists in a vector and goes over the bytes once.
 
-ghost use Rattle.std.specs.Prelude.{◌≡◌, ◌<◌, ◌∷◌, ◌++◌, ◌^◌, length, IfOk, IfErr, MatchResult};
+ghost use Rattle.std.specs.Prelude.{◌≡◌, ◌∷◌, ◌++◌, IfOk, IfErr, MatchResult};
 ghost use Rattle.nbt.specs.Plain.{PlainRoot, plain_tree, plain_root};
-ghost use Rattle.nbt.specs.Spelling.{short_text, spelling, CanBeSpelled, Spells};
+ghost use Rattle.nbt.specs.Spelling.{short_text, spelling, IsText, CanBeSpelled, Spells};
 ghost use Rattle.nbt.specs.Faults.{begun_name, IsBegun, IsRefusal};
 ghost use Rattle.nbt.specs.Reading.{plain_open, stack_of, grown, closed, HasRoom, IsCompound, IsRootOf, IsStep, StopsAt, StopsAtNext};
 
@@ -110,7 +110,7 @@ fn step<'a>(
 
 /// The fields of the root, and the bytes behind it.
 fn read_fields(alloc: Global, name: Raw, bytes: &[u8]) -> Result<(Root, &[u8]), Stop>
-    requires { length name.items.items < 2 ^ 16 }
+    requires { IsText name.items.items }
     ensures ok { IfOk result (λ x. CanBeSpelled (plain_root x.0)) }
     ensures spelled { IfOk result (λ x. 10 ∷ (short_text name.items.items ++ bytes.now)
         ≡ spelling (plain_root x.0) ++ x.1.now) }

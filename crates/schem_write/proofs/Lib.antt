@@ -5,6 +5,7 @@ pub mod StackSteps
 pub mod Slots
 pub mod CellSteps
 pub mod TextLengths
+pub mod TextBytes
 pub mod Spellable
 pub mod TickSteps
 pub mod SpellableRoots

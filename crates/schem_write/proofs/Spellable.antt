@@ -10,7 +10,7 @@ use Rattle.std.proofs.lemmas.Bool.{cases_Bool, and_parts}
 use Rattle.std.proofs.lemmas.Bool.Decides.{nat_tests}
 use Rattle.std.proofs.lemmas.List.{length-append, length-map}
 use Rattle.nbt.specs.Plain.{PlainTree, PlainField, int, list, compound, fields_of, trees_of}
-use Rattle.nbt.specs.Spelling.{CanStand, ItemsCanStand, FieldsCanStand, count, type_of}
+use Rattle.nbt.specs.Spelling.{AreBytes, IsText, CanStand, ItemsCanStand, FieldsCanStand, count, type_of}
 use Rattle.circuit.specs.declared.Pos.{Pos}
 use Rattle.block_table.specs.declared.Block.{Block}
 use Rattle.block_table.specs.declared.Block.TheVariants.{Comparator, Container}
@@ -26,16 +26,14 @@ use Rattle.schem_write.specs.Stacks.{items_for, stacks_of, stack_tree, stack_tre
 use Rattle.schem_write.specs.PaletteTexts.{first_ones, palette_of, numbered_from}
 use Rattle.schem_write.specs.BlockEntities.{level_field, level_in, id_of, further, entity_fields, entity_with, entity_at, entities_of}
 use Rattle.schem_write.proofs.TextLengths.{text-length, name_at-short}
+use Rattle.schem_write.proofs.TextBytes.{literal, named, joined, name_at-bytes, namespace-bytes, text-bytes}
 use Rattle.schem_write.proofs.Slots.{few_slots, few_items}
 
 -- ---- the palette
 
-abbrev pub IsShortText : List ℕ → Type 0
-IsShortText t = length t < 2 ^ 16
-
-all-states : (blocks : List Block) → AllByRecursion IsShortText (map state_text blocks)
+all-states : (blocks : List Block) → AllByRecursion IsText (map state_text blocks)
 all-states [] = tt
-all-states (b ∷ blocks) = (text-length b, all-states blocks)
+all-states (b ∷ blocks) = ((text-length b, text-bytes b), all-states blocks)
 
 all-kept : (P : List ℕ → Type 0) (p : List ℕ → Bool) (texts : List (List ℕ)) → AllByRecursion P texts → AllByRecursion P (filter p texts)
 all-kept P p [] h = tt
@@ -48,14 +46,15 @@ pub all-first_ones : (P : List ℕ → Type 0) (texts : List (List ℕ)) → All
 all-first_ones P [] h = tt
 all-first_ones P (t ∷ texts) h = (h.0, all-kept P (λ other. not (bytes_eq other t)) (first_ones texts) (all-first_ones P texts h.1))
 
-numbered-stands : (depth n : ℕ) (texts : List (List ℕ)) → AllByRecursion IsShortText texts → n + length texts ≤ 2 ^ 30 → FieldsCanStand depth (fields_of (numbered_from n texts))
+numbered-stands : (depth n : ℕ) (texts : List (List ℕ)) → AllByRecursion IsText texts → n + length texts ≤ 2 ^ 30 → FieldsCanStand depth (fields_of (numbered_from n texts))
 numbered-stands depth n [] h l = tt
 numbered-stands depth n (t ∷ texts) h l = (h.0, record { sfits = omega arith }, numbered-stands depth (n + 1) texts h.1 (omega arith))
 
 -- ---- stacks
 
 stack-stands : (depth slot number : ℕ) → depth < 512 → slot < 128 → number < 128 → CanStand depth (stack_tree slot number)
-stack-stands depth slot number d s n = (d, (lit< tt, record { sfits = omega arith }, (lit< tt, lit< tt, (lit< tt, record { sfits = omega arith }, tt))))
+stack-stands depth slot number d s n =
+    (d, (named (codes "Slot") refl, record { sfits = omega arith }, (named (codes "id") refl, named (codes "minecraft:stone") refl, (named (codes "Count") refl, record { sfits = omega arith }, tt))))
 
 stacks-stand : (depth slot : ℕ) (counts : List ℕ) → depth < 512 → AllByRecursion (λ n. n < 128) counts → slot + length counts ≤ 128 → ItemsCanStand depth 10 (trees_of (stack_trees slot counts))
 stacks-stand depth slot [] d h l = tt
@@ -97,21 +96,26 @@ items-stand depth n d h =
 level-stands : (depth : ℕ) (block : Block) (level : ℕ) (said : PlainField) → depth < 511 → level ≤ 15 → level_field block level ≡ Some said → FieldsCanStand depth (fields_of (said ∷ []))
 level-stands depth (Comparator facing subtract) level said d l e =
     let one : (codes "OutputSignal", int (pos level)) ≡ said = cc in
-    subst (λ (f : PlainField). FieldsCanStand depth (fields_of (f ∷ []))) one (lit< tt, record { sfits = omega arith }, tt)
+    subst (λ (f : PlainField). FieldsCanStand depth (fields_of (f ∷ []))) one (named (codes "OutputSignal") refl, record { sfits = omega arith }, tt)
 level-stands depth (Container name) level said d l e =
     let n : ℕ = items_for (slots (Container name)) level in
     let one : (codes "Items", list 10 (trees_of (stack_trees 0 (stacks_of n)))) ≡ said = cc in
-    subst (λ (f : PlainField). FieldsCanStand depth (fields_of (f ∷ []))) one (lit< tt, items-stand depth n d (few_items (slots (Container name)) level (few_slots name) l), tt)
+    subst (λ (f : PlainField). FieldsCanStand depth (fields_of (f ∷ []))) one (named (codes "Items") refl, items-stand depth n d (few_items (slots (Container name)) level (few_slots name) l), tt)
 level-stands depth _ level said d l e = absurd (cc)
 
 further-stands : (depth : ℕ) (layout : Layout) (said : PlainField) → depth < 510 → ((k : ℕ) → k < 511 → FieldsCanStand k (fields_of (said ∷ []))) → FieldsCanStand depth (further layout said)
 further-stands depth Second said d h = h depth (omega arith)
-further-stands depth Third said d h = (lit< tt, (omega arith, h (suc depth) (omega arith)), tt)
+further-stands depth Third said d h = (named (codes "Data") refl, (omega arith, h (suc depth) (omega arith)), tt)
 
 id-short : (block : Block) → length (id_of block) < 2 ^ 16
 id-short (Comparator facing subtract) = lit< tt
 id-short (Container name) = omega (arith, length-append namespace (name_at name), name_at-short name)
 id-short _ = lit< tt
+
+id-bytes : (block : Block) → AreBytes (id_of block)
+id-bytes (Comparator facing subtract) = literal (codes "minecraft:comparator") refl
+id-bytes (Container name) = joined namespace (name_at name) namespace-bytes (name_at-bytes name)
+id-bytes _ = tt
 
 pub record IsPlaced (p : Pos) : Type 0 where
   pub x : FitsSigned w32 p.x
@@ -128,7 +132,7 @@ placed b p w h =
 
 entity-stands : (depth : ℕ) (layout : Layout) (p : Pos) (block : Block) (said : PlainField) → depth < 509 → IsPlaced p → ((k : ℕ) → k < 511 → FieldsCanStand k (fields_of (said ∷ []))) → CanStand depth (compound (entity_fields layout p block said))
 entity-stands depth layout p block said d h s =
-    (omega arith, (lit< tt, (lit< tt, (h.x, (h.y, (h.z, tt)))), (lit< tt, id-short block, further-stands (suc depth) layout said (omega arith) s)))
+    (omega arith, (named (codes "Pos") refl, (lit< tt, (h.x, (h.y, (h.z, tt)))), (named (codes "Id") refl, (id-short block, id-bytes block), further-stands (suc depth) layout said (omega arith) s)))
 
 pub level-small : (b : Plan) (p : Pos) → IsWhole b → entry b b.levels 0 p ≤ 15
 level-small b p w = at (block_at b p) (entry b b.levels 0 p) (w.fitting p)
@@ -199,4 +203,4 @@ pub palette-stands : (depth : ℕ) (blocks : List Block) → depth < 500 → len
 unfolding palette_of
 palette-stands depth blocks d h =
     let texts : List (List ℕ) = map state_text blocks in
-    (omega arith, numbered-stands (suc depth) 0 (first_ones texts) (all-first_ones IsShortText texts (all-states blocks)) (omega (arith, length-first_ones texts, length-map blocks state_text)))
+    (omega arith, numbered-stands (suc depth) 0 (first_ones texts) (all-first_ones IsText texts (all-states blocks)) (omega (arith, length-first_ones texts, length-map blocks state_text)))

@@ -1,5 +1,5 @@
 -- The two roots that are written can be spelled.
-use Rattle.std.proofs.Common.{◌≡◌, ℕ, ◌*◌, ◌^◌, ◌<◌, ◌≤◌, ℤ, pos, List, [], ◌∷◌, ◌++◌, map, length, arith, inl, inr, lit<}
+use Rattle.std.proofs.Common.{◌≡◌, ℕ, ◌*◌, ◌^◌, ◌<◌, ◌≤◌, ℤ, pos, List, [], ◌∷◌, ◌++◌, map, length, refl, arith, inl, inr, lit<}
 use Rattle.std.specs.Prelude.{FitsSigned, codes}
 use Rattle.std.specs.Int.{w16, w32}
 use Rattle.std.specs.List.{AllByRecursion, flat_map}
@@ -8,7 +8,7 @@ use Rattle.std.proofs.Math.Facts.{sfits_to_z}
 use Rattle.std.proofs.lemmas.Bool.{cases_Bool}
 use Rattle.std.proofs.lemmas.List.{length-append, length-map}
 use Rattle.nbt.specs.Plain.{PlainField, compound, fields_of}
-use Rattle.nbt.specs.Spelling.{CanStand, FieldsCanStand, CanBeSpelled}
+use Rattle.nbt.specs.Spelling.{AreBytes, IsText, CanStand, FieldsCanStand, CanBeSpelled}
 use Rattle.block_table.specs.declared.Block.{Block}
 use Rattle.block_table.specs.WrittenText.{state_text}
 use Rattle.build.specs.declared.Pending.{Pending}
@@ -20,6 +20,7 @@ use Rattle.schem_write.specs.PaletteTexts.{palette_of, cells_of, number_in, firs
 use Rattle.schem_write.specs.Written.{size, head, body, metadata, tick_numbers, root_of, root3_of}
 use Rattle.schem_write.proofs.Shortest.{length-varint}
 use Rattle.schem_write.proofs.FirstOnes.{cells_by, length-first_ones}
+use Rattle.schem_write.proofs.TextBytes.{named, cells-bytes}
 use Rattle.schem_write.proofs.Spellable.{palette-stands, entities_of-stands, placed}
 use Rattle.schem_write.proofs.TickSteps.{Waits, timely-parts, all-wait, few-ticks, length-numbers}
 
@@ -45,6 +46,10 @@ length-cells blocks h =
     let count : length texts ≡ length blocks = length-map blocks state_text in
     omega (arith, length-cells_by (first_ones texts) texts (omega (arith, length-first_ones texts)))
 
+cells_of-bytes : (blocks : List Block) → AreBytes (cells_of blocks)
+unfolding cells_of palette_of
+cells_of-bytes blocks = cells-bytes (first_ones (map state_text blocks)) (map state_text blocks)
+
 size-stands : (depth n : ℕ) → n < 65536 → CanStand depth (size n)
 size-stands depth n h = sfits_to_z {w = w16} (record { fits = omega arith })
 
@@ -58,36 +63,36 @@ numbers-fit b (t ∷ ticks) w h =
 metadata-stands : (depth : ℕ) (b : Plan) (ticks : List Pending) → depth < 500 → IsWhole b → AllByRecursion (Waits b) ticks → length ticks ≤ 2 ^ 24 → FieldsCanStand depth (fields_of (metadata ticks))
 metadata-stands depth b [] d w h l = tt
 metadata-stands depth b (t ∷ ticks) d w h l =
-    (lit< tt, (omega arith, (lit< tt, (omega (arith, length-numbers (t ∷ ticks)), numbers-fit b (t ∷ ticks) w h), tt)), tt)
+    (named (codes "Metadata") refl, (omega arith, (named (codes "RedpilePending") refl, (omega (arith, length-numbers (t ∷ ticks)), numbers-fit b (t ∷ ticks) w h), tt)), tt)
 
 head-stands : (depth : ℕ) (version : ℤ) (b : Plan) (rest : List PlainField) → IsWhole b → FitsSigned w32 version → FitsSigned w32 b.data_version → FieldsCanStand depth (fields_of rest) → FieldsCanStand depth (fields_of (head version b ++ rest))
 head-stands depth version b rest w v d r =
-    (lit< tt, v, (lit< tt, d, (lit< tt, size-stands depth b.width w.narrow, (lit< tt, size-stands depth b.height w.low, (lit< tt, size-stands depth b.depth w.shallow, r)))))
+    (named (codes "Version") refl, v, (named (codes "DataVersion") refl, d, (named (codes "Width") refl, size-stands depth b.width w.narrow, (named (codes "Height") refl, size-stands depth b.height w.low, (named (codes "Length") refl, size-stands depth b.depth w.shallow, r)))))
 
-body-stands : (depth : ℕ) (layout : Layout) (name : List ℕ) (b : Plan) (rest : List PlainField) → depth < 500 → length name < 2 ^ 16 → IsWhole b → FieldsCanStand depth (fields_of rest) → FieldsCanStand depth (fields_of (body layout name b ++ rest))
+body-stands : (depth : ℕ) (layout : Layout) (name : List ℕ) (b : Plan) (rest : List PlainField) → depth < 500 → IsText name → IsWhole b → FieldsCanStand depth (fields_of rest) → FieldsCanStand depth (fields_of (body layout name b ++ rest))
 body-stands depth layout name b rest d n w r =
     let few : length b.blocks ≤ 2 ^ 24 = omega (arith, w.blocks, w.small) in
-    (lit< tt, palette-stands depth b.blocks d few, (n, length-cells b.blocks few, (lit< tt, entities_of-stands depth layout b d w, r)))
+    (named (codes "Palette") refl, palette-stands depth b.blocks d few, (n, (length-cells b.blocks few, cells_of-bytes b.blocks), (named (codes "BlockEntities") refl, entities_of-stands depth layout b d w, r)))
 
 pub root-spelled : (b : Plan) → IsWhole b → FitsSigned w32 b.data_version → CanBeSpelled (root_of b)
 unfolding root_of
 root-spelled b w d = (
-  lit< tt,
+  named (codes "Schematic") refl,
   head-stands 1 (pos 2) b (body Second (codes "BlockData") b ++ metadata b.pending) w (record { sfits = omega arith }) d
-      (body-stands 1 Second (codes "BlockData") b (metadata b.pending) (lit< tt) (lit< tt) w (metadata-stands 1 b b.pending (lit< tt) w (all-wait b b.pending w.waiting) (few-ticks b w))),
+      (body-stands 1 Second (codes "BlockData") b (metadata b.pending) (lit< tt) (named (codes "BlockData") refl) w (metadata-stands 1 b b.pending (lit< tt) w (all-wait b b.pending w.waiting) (few-ticks b w))),
 )
 
 pub root3-spelled : (b : Plan) → IsWhole b → FitsSigned w32 b.data_version → CanBeSpelled (root3_of b)
 unfolding root3_of
 root3-spelled b w d = (
-  lit< tt,
+  named [] refl,
   (
-    lit< tt,
+    named (codes "Schematic") refl,
     (
       lit< tt,
       head-stands 2 (pos 3) b ((codes "Blocks", compound (fields_of (body Third (codes "Data") b))) ∷ metadata b.pending) w (record { sfits = omega arith }) d (
-        lit< tt,
-        (lit< tt, body-stands 3 Third (codes "Data") b [] (lit< tt) (lit< tt) w tt),
+        named (codes "Blocks") refl,
+        (lit< tt, body-stands 3 Third (codes "Data") b [] (lit< tt) (named (codes "Data") refl) w tt),
         metadata-stands 2 b b.pending (lit< tt) w (all-wait b b.pending w.waiting) (few-ticks b w),
       ),
     ),

@@ -1,10 +1,14 @@
 -- A build's file, or the first cause for which it is none: never both.
-use Rattle.std.proofs.Common.{◌≡◌, ℕ, List, [], ◌∷◌, Option, Some, None, Result, Ok, Err, IfOk, Bool, true, false, refl, sym, ap, ◌∙◌, subst}
+use Rattle.std.proofs.Common.{◌≡◌, ℕ, List, [], ◌∷◌, Option, Some, None, Result, Ok, Err, IfOk, Bool, true, false, refl, sym, ap, ◌∙◌, subst, inl, inr}
 use Rattle.std.specs.Option.{option_map}
 use Rattle.nbt.specs.Plain.{PlainFields, PlainRoot}
-use Rattle.nbt.specs.Spelling.{Spells}
+use Rattle.std.specs.Prelude.{◌⊎◌}
+use Rattle.std.proofs.lemmas.Bool.{cases_eq}
+use Rattle.nbt.specs.Spelling.{Spells, AreBytes}
 use Rattle.nbt.proofs.Unique.{one-root}
 use Rattle.nbt.proofs.Excludes.{fault-excludes}
+use Rattle.nbt.proofs.OneFault.{one-fault}
+use Rattle.nbt.proofs.OneOfTwo.{one-of-two}
 use Rattle.build.specs.Plan.{Plan}
 use Rattle.schematic.specs.declared.BuildRefusal.{BuildRefusal}
 use Rattle.schematic.specs.Fields.{has_right_version, is_too_large, volume_of, cells_in, pending_in}
@@ -13,7 +17,7 @@ use Rattle.schematic.specs.Palette.{clash, unknown_text, block_numbered}
 use Rattle.schematic.specs.Cells.{cells_fault}
 use Rattle.schematic.specs.Entities.{counting, signal_fault}
 use Rattle.schematic.specs.PendingTicks.{pending_fault}
-use Rattle.schematic.specs.File.{Refusal, compressed, nbt, missing_field, wrong_field, wrong_version, too_large, palette_clash, wrong_cells, unknown_block, wrong_signal, wrong_pending, only, bare, entries_in, first_some, refusal_in, build_of, file, IsFirstRefusal, Refuses, IsCause, is_own}
+use Rattle.schematic.specs.File.{Refusal, compressed, nbt, missing_field, wrong_field, wrong_version, too_large, palette_clash, wrong_cells, unknown_block, wrong_signal, wrong_pending, only, bare, entries_in, first_some, refusal_in, build_of, file, IsCompressed, IsFirstRefusal, Refuses, IsCause, is_own}
 use Rattle.std.specs.Prelude.{not}
 
 abbrev IsOwn : Option Refusal → Type 0
@@ -123,3 +127,69 @@ one_cause bytes r (wrong_cells place) e h k = same_root bytes r _ e refl h k
 one_cause bytes r (unknown_block name) e h k = same_root bytes r _ e refl h k
 one_cause bytes r (wrong_signal place) e h k = same_root bytes r _ e refl h k
 one_cause bytes r (wrong_pending group) e h k = same_root bytes r _ e refl h k
+
+-- ---- exactly one of the two
+
+-- Two first causes are one.
+pub one_refusal : (bytes : List ℕ) (r s : Refusal) → IsFirstRefusal bytes r → IsFirstRefusal bytes s → s ≡ r
+one_refusal bytes compressed compressed h k = refl
+one_refusal bytes compressed (nbt place kind) h k = absurd (k.0 h)
+one_refusal bytes compressed (missing_field name) h k = sym (one_cause bytes (missing_field name) compressed refl k h)
+one_refusal bytes compressed (wrong_field name) h k = sym (one_cause bytes (wrong_field name) compressed refl k h)
+one_refusal bytes compressed wrong_version h k = sym (one_cause bytes wrong_version compressed refl k h)
+one_refusal bytes compressed too_large h k = sym (one_cause bytes too_large compressed refl k h)
+one_refusal bytes compressed palette_clash h k = sym (one_cause bytes palette_clash compressed refl k h)
+one_refusal bytes compressed (wrong_cells place) h k = sym (one_cause bytes (wrong_cells place) compressed refl k h)
+one_refusal bytes compressed (unknown_block name) h k = sym (one_cause bytes (unknown_block name) compressed refl k h)
+one_refusal bytes compressed (wrong_signal place) h k = sym (one_cause bytes (wrong_signal place) compressed refl k h)
+one_refusal bytes compressed (wrong_pending group) h k = sym (one_cause bytes (wrong_pending group) compressed refl k h)
+one_refusal bytes (nbt place kind) compressed h k = absurd (h.0 k)
+one_refusal bytes (nbt place kind) (nbt other also) h k =
+    let same = one-fault bytes other place also kind k.1 h.1 in
+    ap (λ (n : ℕ). nbt n also) same.0 ∙ ap (nbt place) same.1
+one_refusal bytes (nbt place kind) (missing_field name) h k = sym (one_cause bytes (missing_field name) (nbt place kind) refl k h)
+one_refusal bytes (nbt place kind) (wrong_field name) h k = sym (one_cause bytes (wrong_field name) (nbt place kind) refl k h)
+one_refusal bytes (nbt place kind) wrong_version h k = sym (one_cause bytes wrong_version (nbt place kind) refl k h)
+one_refusal bytes (nbt place kind) too_large h k = sym (one_cause bytes too_large (nbt place kind) refl k h)
+one_refusal bytes (nbt place kind) palette_clash h k = sym (one_cause bytes palette_clash (nbt place kind) refl k h)
+one_refusal bytes (nbt place kind) (wrong_cells at) h k = sym (one_cause bytes (wrong_cells at) (nbt place kind) refl k h)
+one_refusal bytes (nbt place kind) (unknown_block name) h k = sym (one_cause bytes (unknown_block name) (nbt place kind) refl k h)
+one_refusal bytes (nbt place kind) (wrong_signal at) h k = sym (one_cause bytes (wrong_signal at) (nbt place kind) refl k h)
+one_refusal bytes (nbt place kind) (wrong_pending group) h k = sym (one_cause bytes (wrong_pending group) (nbt place kind) refl k h)
+one_refusal bytes (missing_field name) s h k = one_cause bytes (missing_field name) s refl h k
+one_refusal bytes (wrong_field name) s h k = one_cause bytes (wrong_field name) s refl h k
+one_refusal bytes wrong_version s h k = one_cause bytes wrong_version s refl h k
+one_refusal bytes too_large s h k = one_cause bytes too_large s refl h k
+one_refusal bytes palette_clash s h k = one_cause bytes palette_clash s refl h k
+one_refusal bytes (wrong_cells place) s h k = one_cause bytes (wrong_cells place) s refl h k
+one_refusal bytes (unknown_block name) s h k = one_cause bytes (unknown_block name) s refl h k
+one_refusal bytes (wrong_signal place) s h k = one_cause bytes (wrong_signal place) s refl h k
+one_refusal bytes (wrong_pending group) s h k = one_cause bytes (wrong_pending group) s refl h k
+
+compressed-or : (bytes : List ℕ) → IsCompressed bytes ⊎ (IsCompressed bytes → ⊥)
+compressed-or [] = inr (λ h. absurd (let clash = h.1 in cc))
+compressed-or (a ∷ []) = inr (λ h. absurd (let clash = h.1 in cc))
+compressed-or (a ∷ b ∷ bytes) = elim (cases_eq a 31) [
+  | inl first ↦ elim (cases_eq b 139) [
+    | inl second ↦ inl (bytes, ap (λ (x : ℕ). x ∷ b ∷ bytes) first ∙ ap (λ (x : ℕ). 31 ∷ x ∷ bytes) second)
+    | inr other ↦ inr (λ h. other (let same = h.1 in cc))
+  ]
+  | inr other ↦ inr (λ h. other (let same = h.1 in cc))
+]
+
+abbrev pub OneOfTwo : List ℕ → Type 0
+OneOfTwo bytes = ((build : Plan) × file bytes build) ⊎ ((refusal : Refusal) × IsFirstRefusal bytes refusal)
+
+root-verdict : (bytes : List ℕ) (root : PlainRoot) (found : Option Refusal) → Spells bytes root → refusal_in root.fields ≡ found → OneOfTwo bytes
+root-verdict bytes root None h e = inl (build_of root.fields, record { root = root; spells = h; accepted = e; means = refl })
+root-verdict bytes root (Some r) h e = inr (r, by_root bytes root r h e (subst IsOwn e (own_cause root.fields)))
+
+-- A build or a refusal.
+pub verdict : (bytes : List ℕ) → AreBytes bytes → OneOfTwo bytes
+verdict bytes all = elim (one-of-two bytes all) [
+  | inl root ↦ root-verdict bytes root.0 (refusal_in root.0.fields) root.1 refl
+  | inr fault ↦ elim (compressed-or bytes) [
+    | inl zip ↦ inr (compressed, zip)
+    | inr plain ↦ inr (nbt fault.0 fault.1, (plain, fault.2))
+  ]
+]

@@ -1,8 +1,9 @@
 //! What holds of the format itself. These calls do nothing: the contract is the law.
 
-ghost use Rattle.std.specs.Prelude.{◌≡◌, true, ℕ, List};
+ghost use Rattle.std.specs.Prelude.{◌≡◌, ◌⊎◌, ℕ, List};
+ghost use Rattle.nbt.specs.Spelling.{AreBytes};
 ghost use Rattle.build.specs.Plan.{Plan, IsWhole};
-ghost use Rattle.schematic.specs.File.{Refusal, file, is_own, IsFirstRefusal};
+ghost use Rattle.schematic.specs.File.{Refusal, file, IsFirstRefusal};
 
 /// Bytes mean one build at most.
 pub fn one_build()
@@ -15,9 +16,15 @@ pub fn a_refusal_excludes()
         → file bytes build → IsFirstRefusal bytes refusal → ⊥ }
 {}
 
-/// Bytes that spell a root have one first cause to be refused at most.
+/// Bytes mean a build, or there is a first cause to refuse them.
+pub fn a_build_or_a_refusal()
+    ensures { (bytes : List ℕ) → AreBytes bytes → ((build : Plan) × file bytes build)
+        ⊎ ((refusal : Refusal) × IsFirstRefusal bytes refusal) }
+{}
+
+/// Bytes have one first cause to be refused at most.
 pub fn one_first_cause()
-    ensures { (bytes : List ℕ) (one other : Refusal) → is_own one ≡ true
+    ensures { (bytes : List ℕ) (one other : Refusal)
         → IsFirstRefusal bytes one → IsFirstRefusal bytes other → other ≡ one }
 {}
 

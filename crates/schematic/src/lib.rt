@@ -14,7 +14,9 @@ mod reader;
 mod tests;
 
 use build::Pos;
-pub use laws::{a_refusal_excludes, one_build, one_first_cause};
+pub use laws::{
+    a_build_or_a_refusal, a_refusal_excludes, one_build, one_first_cause, what_is_read_is_whole,
+};
 use nbt::NbtKind;
 pub use reader::read_build;
 use rp_text::{NoMemory, Raw};

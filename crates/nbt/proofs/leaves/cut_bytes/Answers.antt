@@ -2,8 +2,8 @@ use Rattle.std.proofs.Common.{◌≡◌, ◌<◌, ◌^◌, ℕ, refl, ap, sym, s
 use Rattle.nbt.specs.Reading.{StopsInLeaf, IsLeaf}
 use Rattle.nbt.specs.Plain.{PlainTree}
 use Rattle.nbt.proofs.Views.{plain-Bytes}
-use Rattle.nbt.proofs.Fronts.{IsBytes}
-use Rattle.nbt.proofs.Elements.{stops-bytes, elements-front}
+use Rattle.nbt.proofs.Fronts.{IsBytes, are-bytes}
+use Rattle.nbt.proofs.Elements.{stops-bytes, elements-front, elements-bytes}
 use Rattle.nbt.proofs.leaves.cut_bytes.Goals as goal
 
 pub returns-in_err-elements-clause-err : goal.returns-in_err-elements-clause-err
@@ -17,9 +17,11 @@ returns-clause-ok c =
     let s = c.args.bytes.now in
     let raw = c.in_ok-raw.raw.items.items in
     let same : raw ≡ c.in_ok-elements.elements.now = c.in_ok-raw.ensures in
+    let all : IsBytes s = λ i. omega (arith, c.type_inv.bytes i) in
+    let held : IsBytes raw = elements-bytes s c.in_ok-elements.rest.now c.in_ok-elements.elements.now raw c.in_ok-elements.field-0-0 all c.in_ok-elements.ensures.ok same in
     let count : length raw ≡ c.in_ok-elements.field-0-0 = omega (arith, ap length same, c.in_ok-elements.ensures.count) in
     subst (λ (one : PlainTree). IsLeaf 7 s one c.in_ok-elements.rest.now) (sym (plain-Bytes c.in_ok-raw.raw)) (
       refl,
-      λ depth. subst (λ (m : ℕ). m < 2 ^ 31) (sym count) c.in_ok-elements.ensures.limit,
+      λ depth. (subst (λ (m : ℕ). m < 2 ^ 31) (sym count) c.in_ok-elements.ensures.limit, are-bytes raw held),
       elements-front s raw c.in_ok-elements.rest.now c.in_ok-elements.field-0-0 (length raw) c.in_ok-elements.elements.now c.in_ok-elements.ensures.ok count same,
     )

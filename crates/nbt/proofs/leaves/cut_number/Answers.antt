@@ -3,7 +3,7 @@ use Rattle.nbt.specs.Plain.{plain_tree, PlainTree, byte, short, int, long, float
 use Rattle.nbt.specs.Spelling.{number_size, type_of, CanStand, payload}
 use Rattle.nbt.specs.Reading.{IsLeaf}
 use Rattle.nbt.specs.declared.trees.Tree.{Tree}
-use Rattle.nbt.proofs.Fronts.{IsBytes, bytes-front}
+use Rattle.nbt.proofs.Fronts.{IsBytes, bytes-front, are-bytes}
 use Rattle.nbt.proofs.Elements.{number-cut, read-8, read-16, read-32, read-64, four_reads, eight_reads}
 use Rattle.nbt.proofs.Views.{plain-Byte, plain-Short, plain-Int, plain-Long, plain-Float, plain-Double}
 use Rattle.nbt.specs.declared.trees.Tree.TheVariants.{Byte, Short, Int, Long}
@@ -55,11 +55,11 @@ returns-clause-some c =
       | in-5 w ↦
           let kind : c.args.kind ≡ 5 = w.in-5.is in
           let count : length head ≡ 4 = size ∙ ap number_size kind in
-          made _ (float head) (plain-Float _ ∙ ap float (four_reads head count)) w.tree-is (sym kind) (λ depth. count) refl
+          made _ (float head) (plain-Float _ ∙ ap float (four_reads head count)) w.tree-is (sym kind) (λ depth. (count, are-bytes head fits)) refl
       | in_default w ↦
           let low = c.requires.least in
           let high = c.requires.greatest in
           let kind : c.args.kind ≡ 6 = omega arith in
           let count : length head ≡ 8 = size ∙ ap number_size kind in
-          made _ (double head) (plain-Double _ ∙ ap double (eight_reads head count)) w.tree-is (sym kind) (λ depth. count) refl
+          made _ (double head) (plain-Double _ ∙ ap double (eight_reads head count)) w.tree-is (sym kind) (λ depth. (count, are-bytes head fits)) refl
     ]

@@ -1,8 +1,8 @@
 use Rattle.nbt.specs.declared.refusals.NbtKind.TheVariants.{Truncated}
 use Rattle.nbt.specs.declared.open.Stop.TheVariants.{At}
-use Rattle.std.proofs.Common.{◌≡◌, ◌<◌, ◌+◌, ◌^◌, ℕ, suc, List, ◌∷◌, ◌++◌, length, refl, sym, ap, ◌∙◌, subst, arith, rules, reverse, map}
+use Rattle.std.proofs.Common.{◌≡◌, ◌+◌, ℕ, suc, List, ◌∷◌, ◌++◌, length, refl, sym, ap, ◌∙◌, subst, arith, rules, reverse, map}
 use Rattle.nbt.specs.Plain.{plain_field, plain_tree}
-use Rattle.nbt.specs.Spelling.{short_text, MayHold}
+use Rattle.nbt.specs.Spelling.{short_text, IsText, MayHold}
 use Rattle.nbt.specs.Faults.{begun_compound, begun_list, heading, MayCome}
 use Rattle.nbt.specs.Reading.{stack_of, plain_open, IsNext, StopsAtNext}
 use Rattle.nbt.specs.declared.open.Open.{Open}
@@ -41,7 +41,7 @@ returns-in_ok-name-in-Compound-clause-ok c =
     let name = c.in_ok-name-in-Compound.name.items.items in
     let some = c.if-kind-eq0.false in
     let called : name ≡ c.in-Some.name.now = c.in_ok-name-in-Compound.ensures in
-    let short : length name < 2 ^ 16 = omega (arith, ap length called, c.in-Some.ensures.short) in
+    let short : IsText name = subst IsText (sym called) c.in-Some.ensures.text in
     let come : MayCome stack kind name = (omega arith, c.in_ok-kind-in-Compound.ensures.known, subst (λ (d : ℕ). MayHold d kind) depth c.in_ok-kind-in-Compound.ensures.allowed, short) in
     let spelled : c.args.bytes.now ≡ heading stack kind name ++ c.in-Some.rest.now =
     c.in_ok-kind-in-Compound.ensures.ok ∙ ap (λ (x : List ℕ). kind ∷ x) (c.in-Some.ensures.some ∙ ap (λ (x : List ℕ). short_text x ++ c.in-Some.rest.now) (sym called)) in
@@ -57,7 +57,7 @@ returns-in_ok-name-in-Compound-clause-err c =
     let name = c.in_ok-name-in-Compound.name.items.items in
     let some = c.if-kind-eq0.false in
     let called : name ≡ c.in-Some.name.now = c.in_ok-name-in-Compound.ensures in
-    let short : length name < 2 ^ 16 = omega (arith, ap length called, c.in-Some.ensures.short) in
+    let short : IsText name = subst IsText (sym called) c.in-Some.ensures.text in
     let come : MayCome stack kind name = (omega arith, c.in_ok-kind-in-Compound.ensures.known, subst (λ (d : ℕ). MayHold d kind) depth c.in_ok-kind-in-Compound.ensures.allowed, short) in
     let spelled : c.args.bytes.now ≡ heading stack kind name ++ c.in-Some.rest.now =
     c.in_ok-kind-in-Compound.ensures.ok ∙ ap (λ (x : List ℕ). kind ∷ x) (c.in-Some.ensures.some ∙ ap (λ (x : List ℕ). short_text x ++ c.in-Some.rest.now) (sym called)) in

@@ -22,7 +22,7 @@ push_fields-push_text-requires t c =
     let here = fields-at xs i x (omega arith) c.field-item.is in
     let kept = subst (λ (ys : List Field). FieldsCanStandSomewhere (plain_fields ys)) here c.loop-field.invariant.1 in
     let stands = fields-stand-at x (drop (i + 1) xs) kept.0 kept.1 in
-    omega (arith, ap length c.deref.ensures.value, stands.0)
+    omega (arith, ap length c.deref.ensures.value, stands.0.0)
 
 pub push_fields-returns-in_err-push_text-clause-err : goal.push_fields-returns-in_err-push_text-clause-err
 push_fields-returns-in_err-push_text-clause-err t c =
