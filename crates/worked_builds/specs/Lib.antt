@@ -1,0 +1,6 @@
+pub mod Words
+pub mod Wires
+pub mod Torches
+pub mod Repeaters
+pub mod Comparators
+pub mod Clicked
