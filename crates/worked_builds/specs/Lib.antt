@@ -1,3 +1,4 @@
+pub mod ShowsOnly
 pub mod Words
 pub mod Wires
 pub mod Torches

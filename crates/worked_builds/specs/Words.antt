@@ -14,16 +14,35 @@ use Rattle.build.specs.Plan.{Plan}
 abbrev pub at : ℕ → ℕ → ℕ → Pos
 at x y z = record { x = pos x; y = pos y; z = pos z }
 
--- ---- blocks, by the numbers of their names
+-- ---- blocks
+
+-- the numbers of names (`names_have_these_numbers`)
+abbrev pub stone_button : ℕ
+stone_button = 9
+
+abbrev pub barrel_name : ℕ
+barrel_name = 24
+
+abbrev pub stone_name : ℕ
+stone_name = 36
+
+abbrev pub glass_name : ℕ
+glass_name = 182
+
+abbrev pub oak_button : ℕ
+oak_button = 298
+
+abbrev pub light_plate : ℕ
+light_plate = 306
 
 abbrev pub stone : Block
-stone = Inert 36
+stone = Inert stone_name
 
 abbrev pub glass : Block
-glass = Inert 182
+glass = Inert glass_name
 
 abbrev pub barrel : Block
-barrel = Container 24
+barrel = Container barrel_name
 
 abbrev pub wire : Block
 wire = Wire Absent Absent Absent Absent 0

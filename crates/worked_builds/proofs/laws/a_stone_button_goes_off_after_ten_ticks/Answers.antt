@@ -1,4 +1,4 @@
-use Rattle.std.proofs.Common.{[], ◌∷◌, refl}
+use Rattle.std.proofs.Common.{[], refl}
 use Rattle.block_table.specs.Table.{table, kind_at}
 use Rattle.build.specs.Plan.{in_box, entry}
 use Rattle.build.specs.Outputs.{outputs}
@@ -9,11 +9,10 @@ use Rattle.wire_shape.specs.Feeders.{fed_from_below, fed_from_beside, fed_from_a
 use Rattle.power_rules.specs.Power.{weak, strong, charge, read, undusted, read_around, input, measured, lock_power, lateral_power}
 use Rattle.power_rules.specs.Readings.{readings_at}
 use Rattle.power_rules.specs.RightWires.{source_power, wire_powers}
-use Rattle.worked_builds.specs.Words.{at}
 use Rattle.worked_builds.specs.Clicked.{stone_button_and_lamp}
-use Rattle.worked_builds.proofs.Orders.{world_shows}
+use Rattle.worked_builds.proofs.EveryOrder.{shows_only}
 use Rattle.worked_builds.proofs.laws.a_stone_button_goes_off_after_ten_ticks.Goals as goal
 
 pub returns : goal.returns
 unfolding table kind_at in_box entry outputs role_at first_at base_at stored right_powers after connection points fed_from_below fed_from_beside fed_from_above feeders weak strong charge read undusted read_around input measured lock_power lateral_power readings_at source_power wire_powers
-returns c = world_shows stone_button_and_lamp [] ([] ∷ [] ∷ [] ∷ [] ∷ [] ∷ [] ∷ [] ∷ [] ∷ [] ∷ (at 0 0 0 ∷ []) ∷ [] ∷ (at 2 0 0 ∷ []) ∷ []) refl
+returns c = shows_only stone_button_and_lamp [] refl

@@ -11,9 +11,9 @@ use Rattle.power_rules.specs.Readings.{readings_at}
 use Rattle.power_rules.specs.RightWires.{source_power, wire_powers}
 use Rattle.worked_builds.specs.Words.{at}
 use Rattle.worked_builds.specs.Wires.{long_wire}
-use Rattle.worked_builds.proofs.Orders.{world_shows}
+use Rattle.worked_builds.proofs.EveryOrder.{shows_only}
 use Rattle.worked_builds.proofs.laws.a_wire_loses_one_from_cell_to_cell.Goals as goal
 
 pub returns : goal.returns
 unfolding table kind_at in_box entry outputs role_at first_at base_at stored right_powers after connection points fed_from_below fed_from_beside fed_from_above feeders weak strong charge read undusted read_around input measured lock_power lateral_power readings_at source_power wire_powers
-returns c = world_shows long_wire (at 15 1 0 ∷ at 16 1 0 ∷ []) ([]) refl
+returns c = shows_only long_wire (at 15 1 0 ∷ at 16 1 0 ∷ []) refl
