@@ -9,14 +9,14 @@ use Rattle.circuit.specs.declared.Component.{Component}
 use Rattle.circuit.specs.declared.Step.{Step}
 use Rattle.circuit.specs.declared.Step.TheVariants.{Click as ClickAt, Tick as OneTick}
 use Rattle.circuit.specs.Component.{clicked}
-use Rattle.circuit.specs.Circuit.{Circuit, State, Clicks, Ticks, IsDue, Each, EachBefore, Among, IsFiringList, start, set_value, later, fire, fire_all, view}
+use Rattle.circuit.specs.Circuit.{Circuit, State, Clicks, IsDue, Each, EachBefore, Among, IsFiringList, start, set_value, later, fire, fire_all, view}
 use Rattle.circuit.specs.Firing.{due_at}
 use Rattle.circuit.specs.Keys.{IsTest, IsListed}
-use Rattle.circuit.specs.Shows.{Run, Ended, Clicked, Ticked, Plays, Shows, steps_of, clicks_in, fires_in}
+use Rattle.circuit.specs.Shows.{Run, Ended, Clicked, Ticked, Shows, steps_of, clicks_in, fires_in}
 use Rattle.circuit.proofs.Keys.{is_key, not_key, each_as, among_filter}
 use Rattle.circuit.proofs.Runs.{due_among, due_at-true, due_at_from, tick_exists}
 use Rattle.build.specs.Plan.{Plan, places}
-use Rattle.power_rules.specs.World.{world_circuit, shows}
+use Rattle.power_rules.specs.World.{world_circuit}
 use Rattle.power_rules.proofs.Joining.{test_of_places}
 use Rattle.power_rules.proofs.Listed.{world_listed}
 use Rattle.worked_builds.specs.ShowsOnly.{ShowsOnly}
