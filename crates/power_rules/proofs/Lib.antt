@@ -1,4 +1,4 @@
 pub mod Alike
 pub mod Listed
 pub mod Joining
-mod Rows
+pub mod Moments

@@ -1,27 +1,24 @@
 -- No power is above 15 where no level is, and so the world stays within its bounds.
-use Rattle.std.proofs.Common.{◌≡◌, ℕ, ◌+◌, ◌*◌, ◌-◌, ◌<◌, ◌≤◌, Bool, true, false, cond, pos, List, [], ◌∷◌, length, get_or, map, Option, Some, None, refl, sym, ◌∙◌, ap, arith, inl, inr}
-use Rattle.std.specs.Prelude.{◌&&◌, ◌||◌, ◌==◌, nat_lt, nat_le, slice_index}
-use Rattle.std.proofs.lemmas.Bool.{and_parts, cases_Bool, cases_lt, ltb-true, leb-true, eqb-true, false≢true}
+use Rattle.std.proofs.Common.{◌≡◌, ℕ, ◌*◌, ◌-◌, ◌≤◌, Bool, true, false, cond, pos, List, [], ◌∷◌, length, get_or, map, Option, Some, None, refl, arith, inl, inr}
+use Rattle.std.specs.Prelude.{◌==◌, nat_lt, nat_le, slice_index}
+use Rattle.std.proofs.lemmas.Bool.{and_parts, cases_Bool, cases_lt, ltb-true, leb-true, eqb-true}
 use Rattle.std.proofs.lemmas.List.{get_or-map, length-map}
 use Rattle.std.proofs.Math.ListN.{get_or-eq_default}
 use Rattle.block_table.specs.declared.Side.{Side}
 use Rattle.block_table.specs.declared.Side.TheVariants.{Down, Up, North, South, West, East}
 use Rattle.block_table.specs.declared.Block.{Block}
-use Rattle.block_table.specs.declared.Block.TheVariants.{Air, Wire, Torch, WallTorch, Repeater, Comparator, Lever, Button, Plate, RedstoneBlock, Lamp, Trapdoor, Container, Composter, Cauldron, Cake, Weighted, Note}
+use Rattle.block_table.specs.declared.Block.TheVariants.{Wire, Torch, WallTorch, Repeater, Comparator, Lever, Button, Plate, RedstoneBlock, Lamp, Trapdoor, Container, Composter, Cauldron, Cake, Weighted, Note}
 use Rattle.block_table.specs.Facts.{opposite}
 use Rattle.block_table.specs.Table.{kind_at}
 use Rattle.block_table.specs.WrittenText.{is_listed, is_weighted}
 use Rattle.circuit.specs.declared.Pos.{Pos}
-use Rattle.circuit.specs.declared.Component.{Component}
-use Rattle.circuit.specs.declared.Cell.{Cell as Held}
-use Rattle.circuit.specs.declared.Readings.{Readings}
 use Rattle.circuit.specs.Bounds.{BoundedAt, IsBounded as IsBoundedCircuit}
 use Rattle.build.specs.declared.Pending.{Pending}
-use Rattle.build.specs.Place.{beside, sides, same_side}
+use Rattle.build.specs.Place.{beside, sides}
 use Rattle.build.specs.Plan.{Plan, IsWhole, in_box, entry, cell_of, places, block_at, solid_at, strength_at, strength_of, level_fits, has_level}
 use Rattle.build.specs.Marks.{is_marked}
 use Rattle.build.specs.Roles.{role_of, role_at, base_of, base_at, on_if, stored_value, waiting_at, cell_with, stored_of, stored, direct_at, far_at, if_solid}
-use Rattle.wire_net.specs.Net.{Cell, no_cell, greatest, IsBounded, right_powers}
+use Rattle.wire_net.specs.Net.{no_cell, greatest, IsBounded, right_powers}
 use Rattle.wire_net.specs.Laws.{right_bounded, right_powers_right}
 use Rattle.wire_shape.specs.Shape.{wire_at, points}
 use Rattle.power_rules.specs.Power.{full, only, weak_of, weak, strong_of, strong, charge, read, undusted, read_no_dust, read_around, input, or_far, or_direct, measured}

@@ -6,6 +6,7 @@ pub mod WirePowers
 pub mod World
 pub mod Bounded
 pub mod StandsFor
+pub mod Moments
 pub use Rattle.build.specs.Place
 pub use Rattle.build.specs.Plan
 pub use Rattle.build.specs.Roles

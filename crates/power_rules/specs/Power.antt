@@ -1,5 +1,5 @@
 -- The power that blocks give and read. A level stands at each place: the output of a component, the power of a wire, 0 elsewhere.
-use Rattle.std.specs.Prelude.{ℕ, max, Bool, true, false, not, nat_lt, if◌then◌else◌, List, map, Option, Some, None}
+use Rattle.std.specs.Prelude.{ℕ, Bool, false, not, nat_lt, if◌then◌else◌, map, Option, Some, None}
 use Rattle.wire_net.specs.Net.{greatest}
 use Rattle.block_table.specs.declared.Side.{Side}
 use Rattle.block_table.specs.declared.Side.TheVariants.{Down, Up}

@@ -1,6 +1,5 @@
 -- What a component reads, and the level that it is to have by it.
 use Rattle.std.specs.Prelude.{ℕ, [], Option, Some, None}
-use Rattle.block_table.specs.declared.Side.{Side}
 use Rattle.block_table.specs.declared.Side.TheVariants.{Down}
 use Rattle.block_table.specs.declared.Block.{Block}
 use Rattle.block_table.specs.declared.Block.TheVariants.{Wire, Torch, WallTorch, Repeater, Comparator, Lamp, Trapdoor, Note}

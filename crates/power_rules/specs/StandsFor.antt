@@ -1,5 +1,5 @@
 -- When a build stands for a state of the world of another build: so a run that was cut in two goes on.
-use Rattle.std.specs.Prelude.{◌≡◌, ℕ, Bool, false, [], Some}
+use Rattle.std.specs.Prelude.{◌≡◌, false, [], Some}
 use Rattle.block_table.specs.declared.Block.{Block}
 use Rattle.block_table.specs.declared.Block.TheVariants.{Torch, WallTorch, Repeater, Lever, Button, Plate, Lamp, Trapdoor, Weighted, Note}
 use Rattle.circuit.specs.declared.Pos.{Pos}

@@ -9,9 +9,9 @@ use Rattle.block_table.specs.declared.Side.TheVariants.{Down, Up}
 use Rattle.circuit.specs.declared.Pos.{Pos}
 use Rattle.circuit.specs.Circuit.{Among}
 use Rattle.build.specs.Place.{beside}
-use Rattle.build.specs.Plan.{Plan, volume, in_box, entry, cell_of, places, solid_at}
+use Rattle.build.specs.Plan.{Plan, in_box, entry, cell_of, places, solid_at}
 use Rattle.build.specs.Places.{IsInside, inside, cell_below, place-cell, length-places, places-at, entry-inside, entry-outside}
-use Rattle.wire_net.specs.Net.{Cell, no_cell, cell_at, greatest, power_under, right_powers, IsRight, IsBounded}
+use Rattle.wire_net.specs.Net.{no_cell, cell_at, greatest, power_under, right_powers, IsRight, IsBounded}
 use Rattle.wire_net.specs.Laws.{right-at, right_bounded, right_powers_right}
 use Rattle.wire_shape.specs.Shape.{around, wire_at}
 use Rattle.wire_shape.specs.Feeders.{place_if, fed_from_below, fed_from_beside, fed_from_above, feeders}

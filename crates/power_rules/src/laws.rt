@@ -4,7 +4,7 @@ ghost use Rattle.std.specs.Prelude.{◌≡◌, ◌+◌, ◌<◌, ◌≤◌, ◌+
 ghost use Rattle.std.specs.List.{range_with_len};
 ghost use Rattle.block_table.specs.Table.{name_at, ended, woods};
 ghost use Rattle.circuit.specs.declared.Act.{Act};
-ghost use Rattle.circuit.specs.Circuit.{Among, State};
+ghost use Rattle.circuit.specs.Circuit.{Among, Each, State, attend};
 ghost use Rattle.circuit.specs.Shows.{Plays};
 ghost use Rattle.circuit.specs.Bounds.{Bounded};
 ghost use Rattle.build.specs.Roles.{first_wooden_button};
@@ -15,6 +15,7 @@ ghost use Rattle.wire_shape.specs.Shape.{wire_at};
 ghost use Rattle.power_rules.specs.RightWires.{AreRight, source_power, wire_powers};
 ghost use Rattle.power_rules.specs.World.{world_circuit, shows};
 ghost use Rattle.power_rules.specs.StandsFor.{StandsFor};
+ghost use Rattle.power_rules.specs.Moments.{moments, given_in, IsRightIn};
 
 /// Exactly one map of powers is right for what the components give: the computed one. A power
 /// above what a wire reads without dust comes from a feeder that has one more.
@@ -48,4 +49,15 @@ pub fn values_stay_in_bounds()
     ensures { (b : Plan) → IsWhole b → (marks : List Pos) →
         (acts : List Act) (order : List (List Pos)) (views : List (List ℕ)) (last : State Pos) →
         Plays (world_circuit b marks) acts order views last → Bounded (world_circuit b marks) last }
+{}
+
+/// All is right at every moment of a run, also between two firings of one tick: what each place
+/// reads it reads under the one right map of powers for what the components give then, and nothing
+/// passes its bound. What the components attend to at an event is what is given after it.
+pub fn every_moment_is_right()
+    ensures right { (b : Plan) → IsWhole b → (marks : List Pos) →
+        (acts : List Act) (order : List (List Pos)) (views : List (List ℕ)) (last : State Pos) →
+        (plays : Plays (world_circuit b marks) acts order views last) → Each (IsRightIn b marks) (moments plays.run) }
+    ensures attended { (b : Plan) (marks : List Pos) (s : State Pos) →
+        given_in b marks (attend (world_circuit b marks) s) ≡ given_in b marks s }
 {}

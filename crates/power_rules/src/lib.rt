@@ -3,7 +3,7 @@
 //! No call takes memory.
 #![tactic(auto)]
 
-ghost use Rattle.std.specs.Prelude.{ℕ, ◌≡◌};
+ghost use Rattle.std.specs.Prelude.{ℕ, ◌≡◌, ◌≤◌};
 ghost use Rattle.circuit.specs.declared.Pos.{Pos as Place};
 
 mod components;
@@ -22,12 +22,13 @@ pub use power::{
 /// The levels that the rules go by, one at each place: what a component there gives, which of one
 /// that is on is 15, the power of a wire, and 0 elsewhere.
 ///
-/// The levels of a run are at most 15, and so are all powers then. The rules hold for higher ones
-/// too. A lever, button, plate, torch or repeater whose level isn't 0 counts as on, and gives 15.
+/// A level is at most 15, and so are all powers. A lever, button, plate, torch or repeater whose
+/// level isn't 0 counts as on, and gives 15.
 pub trait Levels {
     ghost level_of: { Self → Place → ℕ };
 
     /// The level at a place, in the box or outside.
     fn level(&self, pos: Pos) -> u8
-        ensures { result ≡ level_of self.now pos };
+        ensures level { result ≡ level_of self.now pos }
+        ensures small { result ≤ 15 };
 }

@@ -1,6 +1,6 @@
 //! The rules as tables, from their text.
 
-ghost use Rattle.std.specs.Prelude.{if◌then◌else◌};
+ghost use Rattle.std.specs.Prelude.{if◌then◌else◌, min};
 ghost use Rattle.build.specs.Place.{same_place};
 
 use super::*;
@@ -30,7 +30,7 @@ const SOUTH: Pos = Pos { x: 2, y: 2, z: 3 };
 
 const NORTH_WEST: Pos = Pos { x: 1, y: 2, z: 1 };
 
-// One place has a level, all others have 0.
+// One place has a level, of which 15 counts at most, all others have 0.
 #[derive(Drop)]
 struct One {
     pos: Pos,
@@ -38,10 +38,14 @@ struct One {
 }
 
 impl Levels for One {
-    ghost level_of = { λ s p. if same_place p s.pos then s.level else 0 };
+    ghost level_of = { λ s p. if same_place p s.pos then min s.level 15 else 0 };
 
     fn level(&self, pos: Pos) -> u8 {
-        if pos == self.pos { self.level } else { 0 }
+        if pos == self.pos {
+            self.level.min(15)
+        } else {
+            0
+        }
     }
 }
 

@@ -1,5 +1,7 @@
--- No thing gives more than 15.
+-- No thing gives more than 15, and no wire has more.
 use Rattle.std.proofs.Common.{◌≡◌, ℕ, ◌≤◌, List, Option, Some, None, refl, arith}
+use Rattle.std.specs.Prelude.{slice_index_or}
+use Rattle.std.specs.Option.{option_map_or}
 use Rattle.circuit.specs.declared.Pos.{Pos}
 use Rattle.circuit.specs.declared.Component.{Component}
 use Rattle.circuit.specs.declared.Component.TheVariants.{Wire, Comparator, Weighted}
@@ -11,9 +13,11 @@ use Rattle.block_table.specs.declared.Block.TheVariants.{RedstoneBlock}
 use Rattle.build.specs.Plan.{block_at}
 use Rattle.build.specs.Roles.{role_at, base_at, base_of}
 use Rattle.wire_net.specs.Net.{IsBounded}
-use Rattle.replay_engine.specs.Things.{Numbered, held, nothing}
+use Rattle.wire_net.specs.Laws.{right_bounded}
+use Rattle.cell_counts.specs.Held.{Holding}
+use Rattle.replay_engine.specs.Things.{Numbered, number_at, held, nothing}
 use Rattle.replay_engine.specs.WireThings.{thing_cells, things_bounded}
-use Rattle.replay_engine.specs.Running.{given_by, AreWithin}
+use Rattle.replay_engine.specs.Running.{given_by, AreSmall, AreWithin, ArePowers, IsHolding}
 
 out-le : (component : Component) (value : ℕ) → value ≤ top component → out component value ≤ 15
 out-le Weighted value h = h
@@ -35,3 +39,16 @@ given-le m cells w p = given-le_at (role_at m.plan m.marks p) (base_at m.plan p)
 
 pub given_bounded : (m : Numbered) (cells : List Cell) → AreWithin m cells → IsBounded (thing_cells m (given_by m cells))
 given_bounded m cells w = things_bounded m (given_by m cells) (given-le m cells w)
+
+-- right powers are small
+pub powers-le : {m : Numbered} {h : Holding} {powers : List ℕ} → IsHolding m h → ArePowers m h.cells powers → AreSmall powers
+powers-le {m} {h} {powers} holding right = right_bounded (thing_cells m (given_by m h.cells)) powers (given_bounded m h.cells holding.within) right
+
+-- small powers are so at each place
+pub held-le : (m : Numbered) (powers : List ℕ) → AreSmall powers → (p : Pos) → held m powers 0 p ≤ 15
+unfolding held
+held-le m powers h p = go (number_at m p)
+  where
+    go : (number : Option ℕ) → option_map_or (λ (n : ℕ). slice_index_or powers n 0) number 0 ≤ 15
+    go (Some n) = h n
+    go None = omega arith

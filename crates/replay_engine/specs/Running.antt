@@ -65,6 +65,10 @@ reads_of m cells powers = readings_at m.plan (level_with m.plan (given_by m cell
 abbrev pub ArePowers : Numbered → List Cell → List ℕ → Type 0
 ArePowers m cells powers = IsRight (thing_cells m (given_by m cells)) powers
 
+-- no power is above 15
+abbrev pub AreSmall : List ℕ → Type 0
+AreSmall powers = (n : ℕ) → slice_index powers n ≤ 15
+
 -- no value is above the greatest of its component
 abbrev pub AreWithin : Numbered → List Cell → Type 0
 AreWithin m cells = (p : Pos) (component : Component) → role_at m.plan m.marks p ≡ Some component → (held m cells nothing p).value ≤ top component

@@ -5,7 +5,7 @@ ghost use Rattle.circuit.specs.Circuit.{attend};
 ghost use Rattle.wire_net.specs.Noted.{AreCells, IsNoted};
 ghost use Rattle.wire_net.specs.WaveSteps.{AreBelow, Has};
 ghost use Rattle.replay_engine.specs.Near.{IsNearby};
-ghost use Rattle.replay_engine.specs.Running.{circuit_of, state_of, spot, AreStill, ArePowers, Attends, IsHolding, IsNearOne};
+ghost use Rattle.replay_engine.specs.Running.{circuit_of, state_of, spot, AreSmall, AreStill, ArePowers, Attends, IsHolding, IsNearOne};
 
 use crate::near::nearby;
 use crate::sight::attended;
@@ -18,6 +18,7 @@ use wire_net::Waves;
 fn attend_at(things: &Things, powers: &[u8], cells: &mut Cells, pos: Pos)
     requires holding { IsHolding things.now cells.old }
     requires powers_whole { length powers.now ≡ length things.now.spots }
+    requires small { AreSmall powers.now }
     ensures attends { Attends things.now cells.old.time powers.now cells.old.cells cells.new.cells (λ p. p ≡ pos) }
     ensures holding { IsHolding things.now cells.new }
     ensures time { cells.new.time ≡ cells.old.time }
@@ -54,6 +55,7 @@ pub(crate) fn attend_near(things: &Things, powers: &[u8], cells: &mut Cells, num
     requires inside { number < length things.now.spots }
     requires holding { IsHolding things.now cells.old }
     requires powers_whole { length powers.now ≡ length things.now.spots }
+    requires small { AreSmall powers.now }
     ensures attends { Attends things.now cells.old.time powers.now cells.old.cells cells.new.cells (IsNearby (spot things.now number)) }
     ensures holding { IsHolding things.now cells.new }
     ensures time { cells.new.time ≡ cells.old.time }
@@ -69,6 +71,7 @@ fn attend_near_each(things: &Things, powers: &[u8], cells: &mut Cells, numbers: 
     requires inside { AreBelow (length things.now.spots) numbers.now }
     requires holding { IsHolding things.now cells.old }
     requires powers_whole { length powers.now ≡ length things.now.spots }
+    requires small { AreSmall powers.now }
     ensures attends { Attends things.now cells.old.time powers.now cells.old.cells cells.new.cells (IsNearOne things.now (Has numbers.now)) }
     ensures holding { IsHolding things.now cells.new }
     ensures time { cells.new.time ≡ cells.old.time }
@@ -83,6 +86,7 @@ pub(crate) fn attend_near_noted(things: &Things, powers: &[u8], cells: &mut Cell
     requires inside { AreCells (length things.now.spots) waves.now }
     requires holding { IsHolding things.now cells.old }
     requires powers_whole { length powers.now ≡ length things.now.spots }
+    requires small { AreSmall powers.now }
     ensures attends { Attends things.now cells.old.time powers.now cells.old.cells cells.new.cells (IsNearOne things.now (IsNoted waves.now)) }
     ensures holding { IsHolding things.now cells.new }
     ensures time { cells.new.time ≡ cells.old.time }

@@ -6,7 +6,7 @@ ghost use Rattle.circuit.specs.Circuit.{fired_at, seen_at};
 ghost use Rattle.build.specs.Roles.{role_at, first_at};
 ghost use Rattle.power_rules.specs.RightWires.{level_with};
 ghost use Rattle.replay_engine.specs.Things.{held, nothing};
-ghost use Rattle.replay_engine.specs.Running.{given_by, reads_of, AreWithin, IsHolding};
+ghost use Rattle.replay_engine.specs.Running.{given_by, reads_of, AreSmall, AreWithin, IsHolding};
 
 use crate::things::Things;
 use cell_counts::{Cells, NOTHING};
@@ -64,6 +64,7 @@ pub(crate) struct Seen<'t, 'c, 'p> {
     pub(crate) given: Given<'t, 'c>,
     pub(crate) powers: &'p [u8],
     ghost powers_whole: { length powers.now ≡ length given.things.now.spots },
+    ghost powers_small: { AreSmall powers.now },
 }
 
 impl<'t, 'c, 'p> Levels for Seen<'t, 'c, 'p> {
@@ -82,6 +83,7 @@ impl<'t, 'c, 'p> Levels for Seen<'t, 'c, 'p> {
 pub(crate) fn reads(things: &Things, cells: &Cells, powers: &[u8], pos: Pos) -> Readings
     requires holding { IsHolding things.now cells.now }
     requires powers_whole { length powers.now ≡ length things.now.spots }
+    requires small { AreSmall powers.now }
     ensures { result ≡ reads_of things.now cells.now.cells powers.now pos }
 {
     let given = Given { things, cells };
@@ -99,6 +101,7 @@ pub(crate) fn attended(
 ) -> Cell
     requires holding { IsHolding things.now cells.now }
     requires powers_whole { length powers.now ≡ length things.now.spots }
+    requires small { AreSmall powers.now }
     ensures { result ≡ attended cells.now.time component (first_at things.now.plan pos) (reads_of things.now cells.now.cells powers.now pos) cell }
 {
     circuit::attended(
@@ -114,6 +117,7 @@ pub(crate) fn attended(
 pub(crate) fn fired(things: &Things, cells: &Cells, powers: &[u8], pos: Pos) -> Cell
     requires holding { IsHolding things.now cells.now }
     requires powers_whole { length powers.now ≡ length things.now.spots }
+    requires small { AreSmall powers.now }
     ensures { result ≡ fired_at cells.now.time (role_at things.now.plan things.now.marks pos) (first_at things.now.plan pos) (reads_of things.now cells.now.cells powers.now) pos (held things.now cells.now.cells nothing pos) }
 {
     let cell = cell_at(things, cells, pos);
@@ -133,6 +137,7 @@ pub(crate) fn fired(things: &Things, cells: &Cells, powers: &[u8], pos: Pos) -> 
 pub(crate) fn shown(things: &Things, cells: &Cells, powers: &[u8], pos: Pos) -> u8
     requires holding { IsHolding things.now cells.now }
     requires powers_whole { length powers.now ≡ length things.now.spots }
+    requires small { AreSmall powers.now }
     ensures { result ≡ seen_at (role_at things.now.plan things.now.marks pos) (reads_of things.now cells.now.cells powers.now) pos (held things.now cells.now.cells nothing pos) }
 {
     match things.role(pos) {

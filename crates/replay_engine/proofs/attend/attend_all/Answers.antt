@@ -4,6 +4,7 @@ use Rattle.replay_engine.specs.Things.{state_by}
 use Rattle.replay_engine.specs.Running.{Attends}
 use Rattle.replay_engine.proofs.NearSteps.{at_time}
 use Rattle.replay_engine.proofs.Steps.{Below, attends-start, attends-more, attends_all, still_all, powers-attends}
+use Rattle.replay_engine.specs.Given.{powers-le}
 use Rattle.replay_engine.proofs.attend.attend_all.Goals as goal
 
 pub loop-number-init : goal.loop-number-init
@@ -43,3 +44,6 @@ returns-clause-still c =
     let all : c.loop-number.number ≡ length m.spots = omega arith in
     still_all m c.count-number-end.ensures.numbered c.args.cells.now.time c.args.powers.now c.args.cells.now.cells c.loop-number.cells.cells
     (subst (λ (i : ℕ). Attends m c.args.cells.now.time c.args.powers.now c.args.cells.now.cells c.loop-number.cells.cells (Below m i)) all c.loop-number.invariant.attends)
+
+pub attend_at-requires-clause-small : goal.attend_at-requires-clause-small
+attend_at-requires-clause-small c = powers-le c.requires.holding c.requires.powers

@@ -9,6 +9,7 @@ use Rattle.replay_engine.specs.Running.{given_by, spot, AreWithin, ArePowers, At
 use Rattle.replay_engine.proofs.NearSteps.{at_time}
 use Rattle.replay_engine.proofs.Reached.{was_right}
 use Rattle.replay_engine.proofs.Settling.{putting_holds, settled_state, settled_powers, settled_still, settled_idle}
+use Rattle.replay_engine.specs.Given.{powers-le}
 use Rattle.replay_engine.proofs.events.settle.Goals as goal
 
 pub resolve-requires-clause-within : goal.resolve-requires-clause-within
@@ -68,3 +69,15 @@ returns-clause-still c =
     let second = at_time m c.attend_near.new.cells.time old.time c.resolve.new.powers c.attend_near.new.cells.cells c.attend_near_noted.new.cells.cells (IsNearOne m (IsNoted c.resolve.new.waves)) (c.attend_near.ensures.time ∙ time) c.attend_near_noted.ensures.attends in
     settled_still m c.count.ensures.numbered old c.args.powers.now c.args.waves.now.feeders c.args.number c.args.cell c.requires.playing c.requires.inside c.requires.bounded
     c.resolve.new.powers c.resolve.new.waves c.attend_near.new.cells.cells c.attend_near_noted.new.cells.cells c.requires.still right c.resolve.ensures.noted first second
+
+pub attend_near-requires-clause-small : goal.attend_near-requires-clause-small
+attend_near-requires-clause-small c =
+    powers-le (subst (IsHolding c.args.things.now) (sym c.hold.ensures)
+    (putting_holds c.args.things.now c.count.ensures.numbered c.args.cells.now c.args.powers.now c.args.waves.now.feeders c.args.number c.args.cell c.requires.playing c.requires.inside c.requires.bounded))
+    c.resolve.ensures.right
+
+pub attend_near_noted-requires-clause-small : goal.attend_near_noted-requires-clause-small
+attend_near_noted-requires-clause-small c =
+    powers-le (subst (IsHolding c.args.things.now) (sym c.hold.ensures)
+    (putting_holds c.args.things.now c.count.ensures.numbered c.args.cells.now c.args.powers.now c.args.waves.now.feeders c.args.number c.args.cell c.requires.playing c.requires.inside c.requires.bounded))
+    c.resolve.ensures.right

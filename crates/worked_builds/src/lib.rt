@@ -1,0 +1,4 @@
+//! Builds whose views are proved, one after the other.
+#![tactic(auto)]
+
+pub mod laws;
