@@ -5,9 +5,9 @@ ghost use Rattle.graph.specs.declared.Group.TheVariants.{Back as BackGroup};
 ghost use Rattle.graph.specs.declared.Link.{Link};
 ghost use Rattle.graph.specs.Graph.{Lives};
 ghost use Rattle.graph.specs.Links.{in_groups, of_group};
-ghost use Rattle.graph.specs.Stored.{plain, plain_nodes};
+ghost use Rattle.graph.specs.Stored.{plain, plain_nodes, plain_graph};
 ghost use Rattle.graph.specs.Edits.{change, with_link, without_link, folded, renamed, renamed_link, drop_set};
-ghost use Rattle.graph.specs.Merging.{taken_over, IsFanOut};
+ghost use Rattle.graph.specs.Merging.{with_places, taken_over, IsFanOut};
 
 use crate::{Group, Kind, Link, Links, Node, NodeKey, OfNodes, Places, Pos};
 use node_arena::{Arena, Key};
@@ -148,14 +148,24 @@ impl Node {
         self.links.rename(keep, gone);
     }
 
-    // The places that the node stands for besides its own, then those of the other one.
-    pub fn places_with(&self, other: &Node) -> Result<Places, NoMemory>
-        ensures { IfOk result (λ places. places.items.items ≡ self.now.also.items.items ++ other.now.pos ∷ other.now.also.items.items) }
+    // Its own place, then the others that it stands for.
+    fn places(&self) -> Result<Vec<Pos>, NoMemory>
+        ensures { IfOk result (λ places. places.items ≡ self.now.pos ∷ self.now.also.items.items) }
     {
-        let mut places = Vec::from_slice(*self.also.items.allocator(), &self.also.items)?;
-        places.push(other.pos)?;
-        places.extend_from_slice(&other.also.items)?;
-        Ok(Places { items: places })
+        let mut places = Vec::new(*self.also.items.allocator());
+        places.push(self.pos)?;
+        places.extend_from_slice(&self.also.items)?;
+        Ok(places)
+    }
+
+    // Stands for these places too.
+    fn stand_for(&mut self, places: &[Pos]) -> Result<(), NoMemory>
+        ensures plain { OnOk result (plain self.new ≡ with_places places.now (plain self.old)) }
+        ensures room { self.new.links.spare ≡ self.old.links.spare }
+        ensures err { OnErr result (plain self.new ≡ plain self.old) }
+    {
+        self.also.items.extend_from_slice(places)?;
+        Ok(())
     }
 }
 
@@ -168,11 +178,10 @@ pub fn take_over(
     requires keep { Lives (plain_nodes nodes.old.entries) keep }
     requires gone { Lives (plain_nodes nodes.old.entries) gone }
     ensures nodes { OnOk result (plain_nodes nodes.new.entries ≡ taken_over (plain_nodes nodes.old.entries) keep gone) }
-    ensures err { OnErr result (nodes.new ≡ nodes.old) }
+    ensures err { OnErr result (plain_graph nodes.new ≡ plain_graph nodes.old) }
 {
-    let other = nodes.get(gone).unwrap();
-    let also = nodes.get(keep).unwrap().places_with(other)?;
-    nodes.get_mut(keep).unwrap().also = also;
+    let places = nodes.get(gone).unwrap().places()?;
+    nodes.get_mut(keep).unwrap().stand_for(&places)?;
     nodes.remove(gone);
     Ok(())
 }

@@ -29,7 +29,7 @@ mod tests;
 mod texts;
 
 /// What a node is. Its state is 0 or 1 (off or on) unless said otherwise.
-#[derive(Clone, Copy, PartialEq, Eq, Debug)]
+#[derive(Clone, Copy, PartialEq, Eq, Hash, Debug)]
 pub enum Kind {
     Lever,
     /// Goes off after `delay` ticks, which is 10 or 15.
