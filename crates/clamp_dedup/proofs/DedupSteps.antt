@@ -7,12 +7,12 @@ use Rattle.graph.specs.declared.Group.{Group}
 use Rattle.graph.specs.declared.Group.TheVariants.{Back, Side}
 use Rattle.graph.specs.declared.Link.{Link}
 use Rattle.graph.specs.Items.{keys_of}
-use Rattle.graph.specs.Graph.{Node, Nodes, node_at, Lives}
+use Rattle.graph.specs.Graph.{Node, Nodes, node_at, Lives, HasLink}
 use Rattle.graph.specs.Edits.{drop_link}
 use Rattle.graph.specs.Sound.{IsSound}
-use Rattle.graph.specs.LinkAt.{links_of, link_at}
+use Rattle.graph.specs.LinkAt.{links_of}
 use Rattle.graph.specs.Steps.{Dedups}
-use Rattle.graph.proofs.LinkSteps.{has_link, within_links, beyond_links, slice_get-before, slice_get-behind, links-dropped}
+use Rattle.graph.proofs.LinkSteps.{has_link, within_links, beyond_links, slice_get-before, slice_get-behind}
 use Rattle.graph.proofs.LinkDrops.{left_was_there}
 use Rattle.pass_frame.specs.Frame.{IsDone}
 use Rattle.pass_frame.proofs.Sweeps.{index_of_key}
@@ -323,10 +323,10 @@ link_read links index link h e = at_default links index link h ∙ ap (λ (l : L
     at_default (l ∷ links) (suc index) d h = at_default links index d (omega arith)
 
 -- the step that drops the link
-pub dedup_step : (old new : Nodes) (key index : ℕ) (slots : List (Option ℕ)) (link : Link) → Rest (links_of (node_at old key)) index slots → link_at old key index ≡ Some link →
-    weight_in slots (slot_of link) ≢ Some link.weight → new ≡ drop_link old key index → Dedups old new
-dedup_step old new key index slots link rest here n e =
-    let b = rest_better (links_of (node_at old key)) index slots link rest here n in
+pub dedup_step : (old new : Nodes) (key index : ℕ) (links : List Link) (slots : List (Option ℕ)) (link : Link) → ((i : ℕ) (one : Link) → slice_get links i ≡ Some one → HasLink old key i one) →
+    Rest links index slots → slice_get links index ≡ Some link → weight_in slots (slot_of link) ≢ Some link.weight → new ≡ drop_link old key index → Dedups old new
+dedup_step old new key index links slots link has rest here n e =
+    let b = rest_better links index slots link rest here n in
     let same = slot-apart b.better link b.slot in
     record {
       key = key;
@@ -334,15 +334,18 @@ dedup_step old new key index slots link rest here n e =
       other = b.other;
       link = link;
       better = b.better;
-      linked = has_link old key index link here;
-      beside = has_link old key b.other b.better b.at_index;
+      linked = has index link here;
+      beside = has b.other b.better b.at_index;
       from = sym same.0;
       group = sym same.1;
       worse = b.worse;
       after = e;
     }
 
-pub rest_after : (old new : Nodes) (key index : ℕ) (slots : List (Option ℕ)) (link : Link) → Rest (links_of (node_at old key)) index slots → link_at old key index ≡ Some link →
-    weight_in slots (slot_of link) ≢ Some link.weight → new ≡ drop_link old key index → Rest (links_of (node_at new key)) index slots
-rest_after old new key index slots link rest here n e =
-    subst (λ links. Rest links index slots) (sym (ap (λ (g : Nodes). links_of (node_at g key)) e ∙ links-dropped old key index link here)) (rest_drops (links_of (node_at old key)) index slots link rest here n)
+-- where there was no link, nothing is noted
+pub none_held : (slots : List (Option ℕ)) → HoldsLeast [] slots → IsEmpty slots
+none_held slots holds slot = by_entry (weight_in slots slot) refl
+  where
+    by_entry : (entry : Option ℕ) → weight_in slots slot ≡ entry → weight_in slots slot ≡ None
+    by_entry None e = e
+    by_entry (Some weight) e = let f = holds.found slot weight e in absurd (let bad : None ≡ Some f.1 = f.2 in cc)

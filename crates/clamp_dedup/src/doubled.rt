@@ -8,7 +8,6 @@ ghost use Rattle.pass_frame.specs.Took.{Took};
 ghost use Rattle.clamp_dedup.specs.Single.{IsSingle};
 ghost use Rattle.clamp_dedup.specs.Weights.{IsEmpty, HasSlotsFor, HoldsLeast};
 
-use crate::link_at;
 use crate::weights::Weights;
 use graph::{Graph, Link, NodeKey};
 
@@ -23,17 +22,20 @@ pub fn drop_doubled_links(graph: &mut Graph, key: NodeKey, weights: &mut Weights
     ensures size { length weights.new.slots.items ≡ length weights.old.slots.items }
 {
     note_links_into(graph, key, weights);
+    let Some(mut links) = graph.take_links(key) else {
+        return false;
+    };
     let mut took = false;
-    let mut index = 0;
-    while let Some(link) = link_at(graph, key, index) {
+    while let Some(link) = links.link() {
         if weights.is_least(&link) {
             weights.clear(&link);
-            index += 1;
+            links.keep();
         } else {
-            graph.drop_link(key, index);
+            links.discard();
             took = true;
         }
     }
+    graph.put_links(key, links);
     took
 }
 

@@ -7,7 +7,6 @@ ghost use Rattle.graph.specs.Steps.{Clamps};
 ghost use Rattle.pass_frame.specs.Took.{Took};
 ghost use Rattle.clamp_dedup.specs.Clamped.{IsClamped};
 
-use crate::link_at;
 use graph::{Graph, NodeKey};
 
 // No node gives more than this.
@@ -19,15 +18,18 @@ pub fn drop_heavy_links(graph: &mut Graph, key: NodeKey) -> bool
     ensures light { IsClamped (node_at graph.new.nodes key) }
     ensures others { SameOthers graph.old.nodes graph.new.nodes key }
 {
+    let Some(mut links) = graph.take_links(key) else {
+        return false;
+    };
     let mut took = false;
-    let mut index = 0;
-    while let Some(link) = link_at(graph, key, index) {
+    while let Some(link) = links.link() {
         if link.weight >= MOST_POWER {
-            graph.drop_link(key, index);
+            links.discard();
             took = true;
         } else {
-            index += 1;
+            links.keep();
         }
     }
+    graph.put_links(key, links);
     took
 }

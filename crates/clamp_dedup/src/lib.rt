@@ -2,13 +2,12 @@
 //! lighter one.
 #![tactic(auto)]
 
-ghost use Rattle.std.specs.Prelude.{◌≡◌, ◌+◌, ◌<◌, ◌^◌, OnOk, OnSome};
-ghost use Rattle.graph.specs.LinkAt.{link_at};
+ghost use Rattle.std.specs.Prelude.{OnOk};
 ghost use Rattle.graph.specs.Sound.{IsSound};
 ghost use Rattle.graph.specs.Steps.{Clamps, Dedups};
 ghost use Rattle.pass_frame.specs.Frame.{Ran, IsDone};
 
-use graph::{Graph, Link, NodeKey};
+use graph::Graph;
 use pass_frame::Pass;
 use rp_text::NoMemory;
 use weights::Weights;
@@ -82,15 +81,4 @@ impl Pass for Dedup {
     ghost refines = { dedup_refines };
 
     ghost falls = { dedup_falls };
-}
-
-// The link of this index into the node.
-fn link_at(graph: &Graph, key: NodeKey, index: usize) -> Option<Link>
-    ensures value { result ≡ link_at graph.now.nodes key index }
-
-    // No list is as long as a number can be.
-    ensures small { OnSome result (index + 1 < 2 ^ 64) }
-{
-    let node = graph.node(key)?;
-    node.links.items.as_slice().get(index).copied()
 }

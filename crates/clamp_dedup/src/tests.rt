@@ -3,9 +3,10 @@
 ghost use Rattle.std.specs.Prelude.{◌<◌, length};
 
 use super::*;
-use graph::{Kind, Pos};
+use graph::{Kind, Link, Pos};
 use hand_graph::{Row, back, side, sound_graph};
 use pass_frame::Then;
+use rp_text::push_u64;
 use std::alloc::Global;
 use std::process::Abort;
 use std::test::Fail;
@@ -59,6 +60,60 @@ fn wire_length(rt: HostRuntime) -> Result<(), Fail> {
         node 1 wire 15 1 0 0\n\
         node 2 wire 16 1 0 0\n\
         link 0 1 back 14\n",
+    )?;
+    Ok(())
+}
+
+// Every third of these links weighs too much, from the first on.
+fn weight(number: u32) -> u8 {
+    if number % 3 == 0 {
+        15
+    } else {
+        (number % 15) as u8
+    }
+}
+
+fn many_links(alloc: Global) -> Result<Vec<(u32, Link)>, NoMemory> {
+    let mut links = Vec::new(alloc);
+    for number in 0..300 {
+        links.push((1, back(0, weight(number))))?;
+    }
+    Ok(links)
+}
+
+// The line of the link of this number, where it stays.
+fn push_line(text: &mut Vec<u8>, number: u32) -> Result<(), NoMemory> {
+    if number % 3 != 0 {
+        text.extend_from_slice(b"link 0 1 back ")?;
+        push_u64(text, u64::from(number % 15))?;
+        text.push(b'\n')?;
+    }
+    Ok(())
+}
+
+#[test]
+fn many_links_into_one_node(rt: HostRuntime) -> Result<(), Fail> {
+    let links = many_links(rt.alloc())?;
+    let mut want = Vec::new(rt.alloc());
+    want.extend_from_slice(
+        b"graph 2 200\n\
+        node 0 lever 0 0 0 0\n\
+        node 1 lamp 1 0 0 0\n",
+    )?;
+    for number in 0..300 {
+        push_line(&mut want, number)?;
+    }
+    assert_left(
+        &rt,
+        rt.alloc(),
+        &mut Clamp,
+        &[
+            (at(0, 0, 0), Kind::Lever, 0, 0),
+            (at(1, 0, 0), Kind::Lamp, 0, 0),
+        ],
+        &links,
+        true,
+        &want,
     )?;
     Ok(())
 }

@@ -82,6 +82,9 @@ pub groups_after_fold : (value : ℕ) (old new : StoredNode) → plain new ≡ f
 groups_after_fold value old new e =
     let links : new.links.items ≡ [] = ap (λ (n : Node). n.links) e in (rw links refl, rw links (omega arith))
 
+pub no_links_stored : (links : List Link) → links ≡ [] → (in_groups links ≡ links) × (length links ≤ 2 ^ 32)
+no_links_stored links e = (rw e refl, rw e (omega arith))
+
 pub groups_after_reserve : (old new : StoredNode) → plain new ≡ plain old → in_groups old.links.items ≡ old.links.items → length old.links.items ≤ 2 ^ 32 →
     (in_groups new.links.items ≡ new.links.items) × (length new.links.items ≤ 2 ^ 32)
 groups_after_reserve old new e groups few =

@@ -13,5 +13,7 @@ pub mod FanSteps
 pub mod Shares
 pub mod LinkDrops
 pub mod LinkSteps
+pub mod GapSteps
+pub mod SieveSteps
 pub mod Bounds
 pub mod FoldSteps

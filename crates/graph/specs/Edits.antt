@@ -23,6 +23,13 @@ without_link index node = record node { links = remove node.links index }
 abbrev pub drop_link : Nodes → ℕ → ℕ → Nodes
 drop_link g to index = change (without_link index) g to
 
+-- with these links in place of its own
+abbrev pub relinked : List Link → Node → Node
+relinked links node = record node { links = links }
+
+abbrev pub set_links : Nodes → ℕ → List Link → Nodes
+set_links g key links = change (relinked links) g key
+
 -- a Constant of this state, without links and without a pending tick
 abbrev pub folded : ℕ → Node → Node
 folded value node = record node { kind = Constant; state = value; due = 0; priority = 0; links = [] }

@@ -23,3 +23,4 @@ pub mod Merging
 pub mod BoundSteps
 pub mod AtKeys
 pub mod LinkAt
+pub mod Sieving

@@ -5,13 +5,15 @@ ghost use Rattle.graph.specs.declared.Group.TheVariants.{Back as BackGroup};
 ghost use Rattle.graph.specs.declared.Link.{Link};
 ghost use Rattle.graph.specs.Graph.{Lives};
 ghost use Rattle.graph.specs.Links.{in_groups, of_group};
-ghost use Rattle.graph.specs.Stored.{plain, plain_nodes, plain_graph};
-ghost use Rattle.graph.specs.Edits.{change, with_link, without_link, folded, renamed, renamed_link, drop_set};
+ghost use Rattle.graph.specs.Stored.{plain, plain_nodes, plain_graph, IsStored};
+ghost use Rattle.graph.specs.Edits.{change, with_link, without_link, relinked, set_links, folded, renamed, renamed_link, drop_set};
 ghost use Rattle.graph.specs.Merging.{with_places, taken_over, IsFanOut};
 
-use crate::{Group, Kind, Link, Links, Node, NodeKey, OfNodes, Places, Pos};
+use crate::{Group, Kind, Link, Links, Node, NodeKey, OfNodes, Places, Pos, Sieve};
 use node_arena::{Arena, Key};
 use rp_text::NoMemory;
+use smallvec::SmallVec;
+use std::mem;
 
 // No node has more links, so that the links of a graph can be counted.
 const MOST_LINKS: usize = 0x1_0000_0000;
@@ -129,6 +131,28 @@ impl Node {
         links.items.remove(index);
     }
 
+    // Takes the links out.
+    pub fn take_links(&mut self) -> Sieve
+        requires groups { in_groups self.old.links.items ≡ self.old.links.items }
+        requires few { length self.old.links.items ≤ 2 ^ 32 }
+        ensures links { result ≡ record { items = self.old.links.items; index = 0 } }
+        ensures plain { plain self.new ≡ relinked [] (plain self.old) }
+    {
+        let none = SmallVec::new(*self.links.items.allocator());
+        let links = mem::replace(&mut self.links, Links { items: none });
+        Sieve::new(links)
+    }
+
+    // Puts links that were judged in place of its own.
+    pub fn put_links(&mut self, links: Sieve)
+        requires { length links.items ≤ links.index }
+        ensures plain { plain self.new ≡ relinked links.items (plain self.old) }
+        ensures groups { in_groups self.new.links.items ≡ self.new.links.items }
+        ensures few { length self.new.links.items ≤ 2 ^ 32 }
+    {
+        self.links = links.finish();
+    }
+
     pub fn fold_to(&mut self, value: u8)
         ensures { plain self.new ≡ folded value (plain self.old) }
     {
@@ -184,6 +208,17 @@ pub fn take_over(
     nodes.get_mut(keep).unwrap().stand_for(&places)?;
     nodes.remove(gone);
     Ok(())
+}
+
+// Puts links that were judged into the node under the key, if there is one.
+pub fn put_links(nodes: &mut Arena<OfNodes, Node>, key: NodeKey, links: Sieve)
+    requires { length links.items ≤ links.index }
+    ensures nodes { plain_nodes nodes.new.entries ≡ set_links (plain_nodes nodes.old.entries) key links.items }
+    ensures stored { IsStored (plain_nodes nodes.old.entries) → IsStored (plain_nodes nodes.new.entries) }
+{
+    if let Some(node) = nodes.get_mut(key) {
+        node.put_links(links);
+    }
 }
 
 // In all nodes each link from `gone` comes from `keep`.

@@ -8,7 +8,8 @@ ghost use Rattle.circuit.specs.Taken.{Takes};
 ghost use Rattle.graph.specs.Graph.{node_at, Lives, node_count, link_count, spare_of, KeepsRoom, KeepsOtherRoom};
 ghost use Rattle.graph.specs.Links.{IsInGroups};
 ghost use Rattle.graph.specs.Stored.{plain};
-ghost use Rattle.graph.specs.Edits.{add_link, drop_link, fold_to, merge, drop_set, HasLinkAt, IsUnlinked, IsClosed};
+ghost use Rattle.graph.specs.Edits.{add_link, drop_link, set_links, fold_to, merge, drop_set, HasLinkAt, IsUnlinked, IsClosed};
+ghost use Rattle.graph.specs.Sieving.{begun};
 ghost use Rattle.graph.specs.Merging.{IsFanOut};
 ghost use Rattle.graph.specs.GraphCircuit.{graph_circuit};
 ghost use Rattle.graph.specs.Clicks.{HasAnswer, HasWire, IsClickInRange};
@@ -17,6 +18,7 @@ ghost use Rattle.graph.specs.GraphText.{graph_text};
 pub use circuit::{Click, Pos};
 use node_arena::{Arena, Key};
 use rp_text::{NoMemory, push_bytes};
+pub use sieve::Sieve;
 use smallvec::SmallVec;
 use std::alloc::Global;
 use std::marker::Model;
@@ -24,6 +26,7 @@ use std::marker::Model;
 mod edits;
 pub mod laws;
 mod reads;
+mod sieve;
 #[cfg(test)]
 mod tests;
 mod texts;
@@ -230,6 +233,23 @@ impl Graph {
         ensures { self.new.nodes ≡ drop_link self.old.nodes to index }
     {
         self.nodes.get_mut(to).unwrap().drop_link(index);
+    }
+
+    /// Takes the links out of a node, to keep some of them: [`Graph::put_links`] puts these back.
+    pub fn take_links(&mut self, key: NodeKey) -> Option<Sieve>
+        ensures links { result ≡ option_map begun (node_at self.old.nodes key) }
+        ensures nodes { self.new.nodes ≡ set_links self.old.nodes key [] }
+    {
+        let node = self.nodes.get_mut(key)?;
+        Some(node.take_links())
+    }
+
+    /// Puts links that were judged into a node, in place of its own.
+    pub fn put_links(&mut self, key: NodeKey, links: Sieve)
+        requires { length links.items ≤ links.index }
+        ensures { self.new.nodes ≡ set_links self.old.nodes key links.items }
+    {
+        edits::put_links(&mut self.nodes, key, links);
     }
 
     /// Makes the node a Constant of this state, without links into it and without a pending tick.

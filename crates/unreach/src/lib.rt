@@ -1,9 +1,9 @@
 //! A pass that drops links which weigh as much as their source ever gives.
 #![tactic(auto)]
 
-ghost use Rattle.std.specs.Prelude.{◌≡◌, ◌+◌, ◌<◌, ◌^◌, OnOk, OnSome};
+ghost use Rattle.std.specs.Prelude.{OnOk};
 ghost use Rattle.graph.specs.Graph.{node_at};
-ghost use Rattle.graph.specs.LinkAt.{link_at, EachLink, SameOthers};
+ghost use Rattle.graph.specs.LinkAt.{EachLink, SameOthers};
 ghost use Rattle.graph.specs.Sound.{IsSound};
 ghost use Rattle.graph.specs.Steps.{Unreaches};
 ghost use Rattle.pass_frame.specs.Frame.{Ran, IsDone};
@@ -11,7 +11,7 @@ ghost use Rattle.pass_frame.specs.Took.{Took};
 ghost use Rattle.unreach.specs.Reached.{HasBound, IsReached, SameBounds};
 
 use bounds::Bounds;
-use graph::{Graph, Link, NodeKey};
+use graph::{Graph, NodeKey};
 use pass_frame::Pass;
 use rp_text::NoMemory;
 
@@ -62,26 +62,18 @@ fn drop_spent_links(graph: &mut Graph, key: NodeKey, bounds: &Bounds) -> bool
     ensures others { SameOthers graph.old.nodes graph.new.nodes key }
     ensures bounds { SameBounds graph.old.nodes graph.new.nodes }
 {
+    let Some(mut links) = graph.take_links(key) else {
+        return false;
+    };
     let mut took = false;
-    let mut index = 0;
-    while let Some(link) = link_at(graph, key, index) {
+    while let Some(link) = links.link() {
         if link.weight >= bounds.of(link.from) {
-            graph.drop_link(key, index);
+            links.discard();
             took = true;
         } else {
-            index += 1;
+            links.keep();
         }
     }
+    graph.put_links(key, links);
     took
-}
-
-// The link of this index into the node.
-fn link_at(graph: &Graph, key: NodeKey, index: usize) -> Option<Link>
-    ensures value { result ≡ link_at graph.now.nodes key index }
-
-    // No list is as long as a number can be.
-    ensures small { OnSome result (index + 1 < 2 ^ 64) }
-{
-    let node = graph.node(key)?;
-    node.links.items.as_slice().get(index).copied()
 }

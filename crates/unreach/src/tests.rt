@@ -3,7 +3,7 @@
 ghost use Rattle.std.specs.Prelude.{◌<◌, length};
 
 use super::*;
-use graph::{Kind, Pos};
+use graph::{Kind, Link, Pos};
 use hand_graph::{Row, back, side, sound_graph};
 use std::alloc::Global;
 use std::process::Abort;

@@ -1,54 +1,68 @@
 -- Each drop is a step, and what stays before the index is light.
-use Rattle.std.proofs.Common.{◌≡◌, ◌+◌, ◌<◌, Some, arith, sym, ◌∙◌, subst, length}
+use Rattle.std.proofs.Common.{sym, ap, ◌∙◌, subst}
 use Rattle.graph.specs.Graph.{Nodes, node_at}
-use Rattle.graph.specs.LinkAt.{links_of, link_at, SameOthers}
+use Rattle.graph.specs.Edits.{set_links}
+use Rattle.graph.specs.Sieving.{Sieve}
 use Rattle.graph.specs.Steps.{Clamps}
-use Rattle.graph.proofs.LinkSteps.{LinksBelow, has_link, within_links, below_next, below_dropped, below_all, others_stay, others_then, length-dropped}
+use Rattle.graph.proofs.LinkSteps.{LinksBelow, within_links, beyond_links, below_none, below_next, below_dropped, below_all}
+use Rattle.graph.proofs.SieveSteps.{sieved_same, sieved_link, sieved_each, sieved_discard, sieved_end, taken_of, fewer_kept, fewer_dropped}
+use Rattle.pass_frame.specs.Took.{Took}
 use Rattle.pass_frame.proofs.Sweeps.{took_step}
-use Rattle.clamp_dedup.specs.Clamped.{IsLight}
+use Rattle.clamp_dedup.specs.Clamped.{IsLight, IsClamped}
 use Rattle.clamp_dedup.proofs.heavy.drop_heavy_links.Goals as goal
 
+pub loop-link-init : goal.loop-link-init
+loop-link-init c =
+    let taken = taken_of c.args.graph.now.nodes c.args.key c.in-Some.links (sym c.in-Some.is ∙ c.take_links.ensures.links) in record {
+      took = ap (set_links c.args.graph.now.nodes c.args.key) taken.1 ∙ sieved_same c.args.graph.now.nodes c.args.key;
+      light = subst (LinksBelow IsLight c.in-Some.links.items) (sym taken.2) (below_none IsLight c.in-Some.links.items);
+    }
+
+pub discard-requires : goal.discard-requires
+discard-requires c = within_links c.loop-link.links.items c.loop-link.links.index c.in-Some-link.link (sym c.link.ensures ∙ c.in-Some-link.is)
+
 pub loop-link-smaller-then-link-ge-MOST_POWER : goal.loop-link-smaller-then-link-ge-MOST_POWER
-loop-link-smaller-then-link-ge-MOST_POWER c =
-    let here : link_at c.loop-link.graph.nodes c.args.key c.loop-link.index ≡ Some c.in-Some.link = sym c.in-Some.ensures.value in
-    let inside : c.loop-link.index < length (links_of (node_at c.loop-link.graph.nodes c.args.key)) = within_links (links_of (node_at c.loop-link.graph.nodes c.args.key)) c.loop-link.index c.in-Some.link here in
-    let shorter : length (links_of (node_at c.drop_link.new.self.nodes c.args.key)) + 1 ≡ length (links_of (node_at c.loop-link.graph.nodes c.args.key)) =
-    subst (λ (g : Nodes). length (links_of (node_at g c.args.key)) + 1 ≡ length (links_of (node_at c.loop-link.graph.nodes c.args.key))) (sym c.drop_link.ensures)
-    (length-dropped c.loop-link.graph.nodes c.args.key c.loop-link.index c.in-Some.link here) in
-    omega (arith, inside, shorter)
+loop-link-smaller-then-link-ge-MOST_POWER c = fewer_dropped c.loop-link.links c.discard.new.self c.in-Some-link.link (sym c.link.ensures ∙ c.in-Some-link.is) c.discard.ensures
 
 pub loop-link-preserved-then-link-ge-MOST_POWER : goal.loop-link-preserved-then-link-ge-MOST_POWER
 loop-link-preserved-then-link-ge-MOST_POWER c =
-    let here : link_at c.loop-link.graph.nodes c.args.key c.loop-link.index ≡ Some c.in-Some.link = sym c.in-Some.ensures.value in record {
-      took = took_step Clamps c.args.graph.now.nodes c.loop-link.graph.nodes c.drop_link.new.self.nodes c.loop-link.took c.loop-link.invariant.took (record {
-        key = c.args.key;
-        index = c.loop-link.index;
-        link = c.in-Some.link;
-        linked = has_link c.loop-link.graph.nodes c.args.key c.loop-link.index c.in-Some.link here;
-        heavy = c.if-link-ge-MOST_POWER.true;
-        after = c.drop_link.ensures;
-      });
-      light = subst (λ (g : Nodes). LinksBelow IsLight g c.args.key c.loop-link.index) (sym c.drop_link.ensures)
-          (below_dropped IsLight c.loop-link.graph.nodes c.args.key c.loop-link.index c.in-Some.link c.loop-link.invariant.light here);
-      others = others_then c.args.graph.now.nodes c.loop-link.graph.nodes c.drop_link.new.self.nodes c.args.key c.loop-link.invariant.others
-          (subst (λ (g : Nodes). SameOthers c.loop-link.graph.nodes g c.args.key) (sym c.drop_link.ensures) (others_stay c.loop-link.graph.nodes c.args.key c.loop-link.index));
+    let taken = taken_of c.args.graph.now.nodes c.args.key c.in-Some.links (sym c.in-Some.is ∙ c.take_links.ensures.links) in record {
+      took = took_step Clamps c.args.graph.now.nodes (set_links c.args.graph.now.nodes c.args.key c.loop-link.links.items) (set_links c.args.graph.now.nodes c.args.key c.discard.new.self.items) c.loop-link.took
+          c.loop-link.invariant.took (record {
+            key = c.args.key;
+            index = c.loop-link.links.index;
+            link = c.in-Some-link.link;
+            linked = sieved_link c.args.graph.now.nodes c.args.key c.loop-link.links.items c.loop-link.links.index c.in-Some-link.link taken.0 (sym c.link.ensures ∙ c.in-Some-link.is);
+            heavy = c.if-link-ge-MOST_POWER.true;
+            after = sieved_discard c.args.graph.now.nodes c.args.key c.loop-link.links c.discard.new.self c.discard.ensures;
+          });
+      light = subst (λ (one : Sieve). LinksBelow IsLight one.items one.index) (sym c.discard.ensures) (below_dropped IsLight c.loop-link.links.items c.loop-link.links.index c.loop-link.invariant.light);
     }
+
+pub keep-requires : goal.keep-requires
+keep-requires c = within_links c.loop-link.links.items c.loop-link.links.index c.in-Some-link.link (sym c.link.ensures ∙ c.in-Some-link.is)
+
+pub loop-link-smaller : goal.loop-link-smaller
+loop-link-smaller c = fewer_kept c.loop-link.links c.keep.new.self c.in-Some-link.link (sym c.link.ensures ∙ c.in-Some-link.is) c.keep.ensures
 
 pub loop-link-preserved : goal.loop-link-preserved
 loop-link-preserved c = record {
-  took = c.loop-link.invariant.took;
-  light = below_next IsLight c.loop-link.graph.nodes c.args.key c.loop-link.index c.in-Some.link c.loop-link.invariant.light (sym c.in-Some.ensures.value) c.if-link-ge-MOST_POWER.false;
-  others = c.loop-link.invariant.others;
+  took = subst (λ (one : Sieve). Took Clamps c.args.graph.now.nodes c.loop-link.took (set_links c.args.graph.now.nodes c.args.key one.items)) (sym c.keep.ensures) c.loop-link.invariant.took;
+  light = subst (λ (one : Sieve). LinksBelow IsLight one.items one.index) (sym c.keep.ensures)
+      (below_next IsLight c.loop-link.links.items c.loop-link.links.index c.in-Some-link.link c.loop-link.invariant.light (sym c.link.ensures ∙ c.in-Some-link.is) c.if-link-ge-MOST_POWER.false);
 }
 
-pub overflow_add-index : goal.overflow_add-index
-overflow_add-index c = omega (arith, c.in-Some.ensures.small)
+pub put_links-requires : goal.put_links-requires
+put_links-requires c = beyond_links c.loop-link.links.items c.loop-link.links.index (sym c.link.ensures ∙ c.in_default-link.is)
 
-pub loop-link-smaller : goal.loop-link-smaller
-loop-link-smaller c =
-    let here : link_at c.loop-link.graph.nodes c.args.key c.loop-link.index ≡ Some c.in-Some.link = sym c.in-Some.ensures.value in
-    let inside : c.loop-link.index < length (links_of (node_at c.loop-link.graph.nodes c.args.key)) = within_links (links_of (node_at c.loop-link.graph.nodes c.args.key)) c.loop-link.index c.in-Some.link here in
-    omega (arith, inside)
+pub returns-clause-took : goal.returns-clause-took
+returns-clause-took c = subst (Took Clamps c.args.graph.now.nodes c.loop-link.took)
+    (sym (sieved_end c.args.graph.now.nodes c.take_links.new.self.nodes c.put_links.new.self.nodes c.args.key c.loop-link.links.items c.take_links.ensures.nodes c.put_links.ensures)) c.loop-link.invariant.took
 
 pub returns-clause-light : goal.returns-clause-light
-returns-clause-light c = below_all IsLight c.loop-link.graph.nodes c.args.key c.loop-link.index c.loop-link.invariant.light (sym c.link_at.ensures.value ∙ c.in_default.is)
+returns-clause-light c =
+    let taken = taken_of c.args.graph.now.nodes c.args.key c.in-Some.links (sym c.in-Some.is ∙ c.take_links.ensures.links) in
+    subst (λ (g : Nodes). IsClamped (node_at g c.args.key))
+    (sym (sieved_end c.args.graph.now.nodes c.take_links.new.self.nodes c.put_links.new.self.nodes c.args.key c.loop-link.links.items c.take_links.ensures.nodes c.put_links.ensures))
+    (sieved_each IsLight c.args.graph.now.nodes c.args.key c.loop-link.links.items taken.0
+    (below_all IsLight c.loop-link.links.items c.loop-link.links.index c.loop-link.invariant.light (sym c.link.ensures ∙ c.in_default-link.is)))
