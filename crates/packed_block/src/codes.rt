@@ -184,7 +184,8 @@ fn wire_in(code: u16) -> Block
     }
 }
 
-// The block of a code.
+// The block of a code. It stands in each caller, where a test of the block becomes one of the code.
+#[inline(always)]
 #[tactic(auto, unfolding(crate::specs::Packed::unpacked, crate::specs::Packed::unpacked_by))]
 pub(crate) fn unpacked(code: u16) -> Block
     ensures { result ≡ unpacked code }

@@ -48,6 +48,7 @@ impl PackedBlock {
     }
 
     /// The block that was packed.
+    #[inline(always)]
     pub fn block(self) -> Block
         ensures value { result ≡ self }
         ensures listed { IsTrue (is_listed result) }
