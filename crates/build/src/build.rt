@@ -254,6 +254,7 @@ impl Build {
     }
 
     /// The cell of a place, where it is in the box.
+    #[inline]
     pub fn cell(&self, pos: Pos) -> Option<usize>
         ensures found { result ≡ found_cell self.now pos }
         ensures below { IfSome result (λ cell. cell < volume self.now) }
@@ -288,6 +289,7 @@ impl Build {
     }
 
     /// The block in a cell.
+    #[inline(always)]
     pub fn block_in(&self, cell: usize) -> Block
         requires inside { cell < volume self.now }
         ensures value { result ≡ block_at self.now (place_of self.now cell) }
@@ -297,6 +299,7 @@ impl Build {
     }
 
     /// The block at a place: air outside of the box.
+    #[inline]
     pub fn at(&self, pos: Pos) -> Block
         ensures value { result ≡ block_at self.now pos }
         ensures listed { IsTrue (is_listed result) }
