@@ -1,10 +1,10 @@
 -- Nodes that are put among those of their look.
-use Rattle.std.proofs.Common.{◌≡◌, ℕ, Bool, true, false, List, [], ◌∷◌, Option, Some, None, refl, sym, ap, ◌∙◌, subst, inl, inr}
+use Rattle.std.proofs.Common.{◌≡◌, ℕ, Bool, true, [], Option, Some, None, refl, sym, ap, ◌∙◌, subst, inl, inr}
 use Rattle.std.proofs.Math.Path.{fun_ext}
 use Rattle.std.specs.Prelude.{Vec, unwrap_or}
 use Rattle.std.specs.declared.alloc.Global.{Global}
-use Rattle.std.specs.HashMap.{HashMap, get, get_by, Updates, UpdatesBy}
-use Rattle.std.proofs.lemmas.Bool.{cases_Bool, and_parts, false≢true}
+use Rattle.std.specs.HashMap.{HashMap, get_by, Updates, UpdatesBy}
+use Rattle.std.proofs.lemmas.Bool.{cases_Bool}
 use Rattle.circuit.specs.Circuit.{Among}
 use Rattle.coalesce.specs.declared.looks.Look.{Look}
 use Rattle.coalesce.specs.contracts.looks.LookEq.TheImpl.Laws.{laws-law}

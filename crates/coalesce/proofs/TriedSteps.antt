@@ -5,7 +5,7 @@ use Rattle.std.specs.declared.alloc.Global.{Global}
 use Rattle.std.specs.HashMap.{HashMap}
 use Rattle.std.specs.BTreeSet.{BTreeSet, btree_set_len}
 use Rattle.std.specs.Result.{IsErr}
-use Rattle.std.proofs.lemmas.Bool.{cases_Bool, cases_eq, ne_eqb, eq-eqb, lt-ltb, ltb-true, false≢true}
+use Rattle.std.proofs.lemmas.Bool.{cases_Bool, cases_eq, ne_eqb, eq-eqb, lt-ltb, ltb-true}
 use Rattle.std.proofs.lemmas.Nat.{mul-le}
 use Rattle.node_arena.specs.Items.{keys_of}
 use Rattle.rp_text.specs.declared.NoMemory.{NoMemory}
@@ -20,10 +20,10 @@ use Rattle.graph.specs.Steps.{is_full_or_none, asks_for_any, can_fold, AreTwins,
 use Rattle.pass_frame.specs.Frame.{Reaches, Stays, Goes, Ran, IsDone}
 use Rattle.pass_frame.specs.Took.{Took}
 use Rattle.pass_frame.proofs.FrameSteps.{went_reaches}
-use Rattle.pass_frame.proofs.Sweeps.{took_step, took_then, took_reaches}
+use Rattle.pass_frame.proofs.Sweeps.{took_then, took_reaches}
 use Rattle.coalesce.specs.declared.looks.Look.{Look}
 use Rattle.coalesce.specs.FanOuts.{targets_of, AreFanOuts, Keeps}
-use Rattle.coalesce.specs.Looks.{counted_weight, look_with, look_by, look_in, look_at, members, KeepsMembers, IsGrouped}
+use Rattle.coalesce.specs.Looks.{counted_weight, look_by, look_in, look_at, members, KeepsMembers, IsGrouped}
 use Rattle.coalesce.specs.MergedGraph.{at_gone, blind_at}
 use Rattle.coalesce.specs.MergedSound.{was_there, IsLike, slice_get-map, measure_merged}
 use Rattle.coalesce.specs.MergeKeeps.{twins_before, size_merged, first_of}

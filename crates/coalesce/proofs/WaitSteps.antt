@@ -1,5 +1,5 @@
 -- Nodes that wait.
-use Rattle.std.proofs.Common.{◌≡◌, ℕ, zero, suc, ◌+◌, ◌<◌, ◌≤◌, Bool, true, false, [], ◌∷◌, Option, Some, None, Ok, Err, Result, refl, sym, ap, ◌∙◌, subst, arith, length, IsTrue, All, inl, inr, ◌⊎◌}
+use Rattle.std.proofs.Common.{◌≡◌, ℕ, zero, suc, ◌<◌, ◌≤◌, [], ◌∷◌, Some, None, Ok, Err, Result, sym, subst, arith, length, inl, inr, ◌⊎◌}
 use Rattle.std.specs.Prelude.{Contains, OnOk}
 use Rattle.std.specs.Cmp.{nat_cmp_total}
 use Rattle.std.specs.Ordering.{nat_cmp}
@@ -8,7 +8,7 @@ use Rattle.std.proofs.lemmas.List.Elements.{All-weaker, All-contains_itself}
 use Rattle.std.proofs.lemmas.Map.Lookups.{exact_unsigned}
 use Rattle.std.proofs.lemmas.Map.Views.{btree_set_contains_iff, length-le_from_below}
 use Rattle.rp_text.specs.declared.NoMemory.{NoMemory}
-use Rattle.graph.specs.Graph.{Node, Nodes, node_at}
+use Rattle.graph.specs.Graph.{Nodes, node_at}
 use Rattle.coalesce.specs.declared.looks.Look.{Look}
 use Rattle.coalesce.specs.Looks.{look_at, look_in}
 use Rattle.coalesce.specs.Waiting.{Waits, AreBelow, AreFew, TakesOut}

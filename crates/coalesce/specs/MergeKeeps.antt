@@ -1,14 +1,14 @@
 -- Which pairs a merge makes twins: none but of nodes that read the node that stays.
-use Rattle.std.proofs.Common.{◌≡◌, ◌≢◌, ℕ, zero, suc, ◌<◌, Bool, true, List, [], ◌∷◌, Option, Some, None, refl, sym, ap, ◌∙◌, subst, map, inl, inr, ◌⊎◌, length, set}
-use Rattle.std.specs.Prelude.{option_map, slice_get, ◌==◌, if◌then◌else◌}
+use Rattle.std.proofs.Common.{◌≡◌, ◌≢◌, ℕ, zero, suc, Bool, true, List, [], ◌∷◌, Option, Some, None, refl, sym, ap, ◌∙◌, subst, map, inl, inr, length}
+use Rattle.std.specs.Prelude.{slice_get}
 use Rattle.std.proofs.lemmas.Bool.{cases_eq, eq-eqb, ne_eqb}
 use Rattle.std.proofs.lemmas.List.{length-map, length-set}
 use Rattle.graph.specs.declared.Link.{Link}
 use Rattle.graph.specs.Graph.{Node, Nodes, node_at, HasLink}
 use Rattle.graph.specs.Edits.{renamed, renamed_link, standing_for, merge}
 use Rattle.graph.specs.Steps.{can_fold, is_full_or_none, asks_for_any, AreTwins}
-use Rattle.coalesce.specs.MergedGraph.{stood, at_kept, blind_at}
-use Rattle.coalesce.specs.MergedSound.{was_there, IsLike, stands_still}
+use Rattle.coalesce.specs.MergedGraph.{at_kept, blind_at}
+use Rattle.coalesce.specs.MergedSound.{was_there, IsLike}
 
 abbrev pub first_of : Option Node → Option Bool
 first_of None = None

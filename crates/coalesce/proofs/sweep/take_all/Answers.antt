@@ -1,9 +1,8 @@
 -- One turn more was had. Where none waits no step is left.
-use Rattle.std.proofs.Common.{ℕ, List, refl, sym, ◌∙◌, subst, arith}
-use Rattle.circuit.specs.Circuit.{Among}
+use Rattle.std.proofs.Common.{refl, sym, ◌∙◌}
 use Rattle.graph.specs.Steps.{Coalesces}
 use Rattle.pass_frame.specs.Frame.{Stays}
-use Rattle.pass_frame.proofs.Sweeps.{took_reaches, took_ran}
+use Rattle.pass_frame.proofs.Sweeps.{took_ran}
 use Rattle.coalesce.proofs.TriedSteps.{ran_err, took_turn, twins_reached, turn_falls, none_left, others_wait, all_wait}
 use Rattle.coalesce.proofs.WaitSteps.{few_left, few_none}
 use Rattle.coalesce.proofs.sweep.take_all.Goals as goal

@@ -1,5 +1,5 @@
 -- The pair was taken, or want of memory ended it before or after.
-use Rattle.std.proofs.Common.{◌≡◌, ℕ, true, sym, ap, subst, rules}
+use Rattle.std.proofs.Common.{◌≡◌, true, sym, ap, subst, rules}
 use Rattle.circuit.specs.Circuit.{Among}
 use Rattle.graph.specs.Graph.{Graph, Nodes}
 use Rattle.graph.specs.Steps.{Coalesces}

@@ -1,5 +1,5 @@
 -- One pair more is tried, in the end all: a twin is among those that are tried.
-use Rattle.std.proofs.Common.{◌≡◌, ◌<◌, ℕ, List, refl, sym, ◌∙◌, subst, length, get_or}
+use Rattle.std.proofs.Common.{◌≡◌, ℕ, List, refl, sym, ◌∙◌, subst}
 use Rattle.std.specs.Prelude.{filter, nat_lt}
 use Rattle.circuit.specs.Circuit.{Among}
 use Rattle.graph.specs.Steps.{Coalesces}

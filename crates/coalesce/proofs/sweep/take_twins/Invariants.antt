@@ -2,7 +2,6 @@ use Rattle.graph.specs.Steps.{Coalesces}
 use Rattle.pass_frame.specs.Took.{Took}
 use Rattle.coalesce.specs.Tried.{IsKnown}
 use Rattle.coalesce.proofs.TriedSteps.{Left}
-use Rattle.std.proofs.Common.{◌≡◌, length}
 use Rattle.coalesce.proofs.sweep.take_twins.Given as goal
 
 abbrev pub invariant-loop-gone : goal.invariant-loop-gone

@@ -1,5 +1,5 @@
 -- One node more was listed, in the end all.
-use Rattle.std.proofs.Common.{ℕ, sym, ◌∙◌, subst, get_or}
+use Rattle.std.proofs.Common.{ℕ, sym, subst, get_or}
 use Rattle.circuit.specs.Circuit.{Among}
 use Rattle.graph.specs.declared.Link.{Link}
 use Rattle.graph.specs.Graph.{HasLink}

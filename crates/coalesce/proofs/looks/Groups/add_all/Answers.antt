@@ -1,5 +1,5 @@
 -- One node more was put in, in the end all.
-use Rattle.std.proofs.Common.{ℕ, get_or}
+use Rattle.std.proofs.Common.{get_or}
 use Rattle.coalesce.specs.Looks.{IsGrouped}
 use Rattle.coalesce.proofs.FanSteps.{each_more, each_among}
 use Rattle.coalesce.proofs.looks.Groups.add_all.Goals as goal

@@ -1,5 +1,5 @@
 -- One node more was put in, in the end all.
-use Rattle.std.proofs.Common.{◌≡◌, ℕ, Some, get_or}
+use Rattle.std.proofs.Common.{◌≡◌, Some, get_or}
 use Rattle.coalesce.specs.declared.looks.Look.{Look}
 use Rattle.coalesce.specs.Looks.{look_at}
 use Rattle.coalesce.specs.Waiting.{Waits}
