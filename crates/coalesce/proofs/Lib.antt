@@ -1,3 +1,5 @@
 pub mod FanSteps
+pub mod LookSteps
 pub mod PairSteps
 pub mod TriedSteps
+pub mod WaitSteps

@@ -1,9 +1,12 @@
 pub mod MergedGraph
 pub mod Shuffles
 pub mod MergedSound
+pub mod MergeKeeps
 pub mod TwinReadings
 pub mod CoalesceLaws
 pub mod FanOuts
 pub mod Tried
 pub mod Pairs
+pub mod Looks
+pub mod Waiting
 pub mod Order

@@ -13,15 +13,6 @@ abbrev pub only_link : List Link → Option Link
 only_link (link ∷ []) = if is_group Back link.group && nat_lt link.weight 15 then Some link else None
 only_link _ = None
 
-abbrev pub link_source : Option Link → Option ℕ
-link_source None = None
-link_source (Some link) = Some link.from
-
--- where that link comes from
-abbrev pub source_at : Option Node → Option ℕ
-source_at None = None
-source_at (Some node) = link_source (only_link node.links)
-
 -- the nodes are the same but for their places and links
 pub record LookAlike (a b : Node) : Type 0 where
   pub can : can_fold a.kind ≡ true

@@ -1,6 +1,7 @@
 //! Which nodes the links of each node go into.
 
-ghost use Rattle.std.specs.Prelude.{◌≡◌, ℕ, ◌<◌, [], Some, filter, nat_lt, length, slice_get, OnOk, IfOk};
+ghost use Rattle.std.specs.Prelude.{◌≡◌, ℕ, ◌<◌, [], Some, length, slice_get, OnOk, IfOk};
+ghost use Rattle.node_arena.specs.Items.{keys_of};
 ghost use Rattle.circuit.specs.Circuit.{Among};
 ghost use Rattle.graph.specs.declared.Link.{Link};
 ghost use Rattle.graph.specs.Graph.{HasLink};
@@ -8,6 +9,7 @@ ghost use Rattle.coalesce.specs.FanOuts.{targets_of, AreFanOuts, Keeps};
 
 use graph::{Graph, Link, NodeKey};
 use rp_text::NoMemory;
+use std::alloc::Global;
 
 // For each node, by its number, the nodes that its links go into. Nodes that were dropped may
 // stand among them.
@@ -17,15 +19,15 @@ pub struct FanOuts {
 }
 
 impl FanOuts {
-    // Those of all nodes of the graph, rising.
-    pub fn of(graph: &Graph) -> Result<FanOuts, NoMemory>
+    // Those of all nodes of the graph, whose keys are given.
+    pub fn of(alloc: Global, graph: &Graph, keys: &[NodeKey]) -> Result<FanOuts, NoMemory>
+        requires { keys.now ≡ keys_of graph.now.nodes }
         ensures { IfOk result (λ fans. AreFanOuts graph.now.nodes fans.lists.items) }
     {
-        let keys = graph.keys()?;
         let mut fans = FanOuts {
-            lists: Vec::new(*keys.allocator()),
+            lists: Vec::new(alloc),
         };
-        for key in &keys {
+        for key in keys {
             fans.add_node(graph, *key)?;
         }
         Ok(fans)
@@ -41,19 +43,6 @@ impl FanOuts {
         }
     }
 
-    // Those of them that stand above another node.
-    pub fn targets_above(&self, from: NodeKey, least: NodeKey) -> Result<Vec<NodeKey>, NoMemory>
-        ensures { IfOk result (λ keys. keys.items ≡ filter (λ key. nat_lt least key) (targets_of self.now.lists.items from)) }
-    {
-        let keys = self
-            .targets(from)
-            .iter()
-            .copied()
-            .filter(|key| key.number() > least.number())
-            .collect(*self.lists.allocator())?;
-        Ok(keys)
-    }
-
     // Lists the targets of `gone` for `keep` too.
     pub fn join(&mut self, keep: NodeKey, gone: NodeKey) -> Result<(), NoMemory>
         ensures keeps { OnOk result (Keeps self.old.lists.items self.new.lists.items) }
@@ -64,16 +53,6 @@ impl FanOuts {
             self.add(keep, *key)?;
         }
         Ok(())
-    }
-
-    // Lets the targets of a node rise.
-    pub fn sort(&mut self, from: NodeKey) -> Result<(), NoMemory>
-        ensures { OnOk result (Keeps self.old.lists.items self.new.lists.items) }
-    {
-        match self.lists.get_mut(from.number() as usize) {
-            Some(list) => sort_list(list),
-            None => Ok(()),
-        }
     }
 
     // Lists the node for the sources of its links.
@@ -117,11 +96,4 @@ impl FanOuts {
         }
         Ok(())
     }
-}
-
-fn sort_list(list: &mut Vec<NodeKey>) -> Result<(), NoMemory>
-    ensures { OnOk result ((key : ℕ) → Among list.old.items key → Among list.new.items key) }
-{
-    list.sort()?;
-    Ok(())
 }

@@ -7,20 +7,24 @@ ghost use Rattle.graph.specs.Steps.{Coalesces};
 ghost use Rattle.pass_frame.specs.Frame.{Ran, IsDone};
 
 use graph::Graph;
-use pass_frame::{Pass, Stable};
+use pass_frame::Pass;
 use rp_text::NoMemory;
 
 mod fan_outs;
 pub mod laws;
+mod looks;
 mod pairs;
 mod sweep;
 #[cfg(test)]
 mod tests;
+mod waiting;
 
 /// Of two nodes that always do the same, the lower takes the part of the other.
 ///
 /// It goes over the nodes by rising number and, for each, over the higher ones by rising number,
-/// and repeats this until it takes nothing. So after `Ok` no step is enabled.
+/// and repeats this until it takes nothing. So after `Ok` no step is enabled. A round but the first
+/// looks only at nodes that read one that took a twin, and each node is tried with those alone that
+/// are equal to it and read the same node.
 #[derive(Drop)]
 pub struct Coalesce;
 
@@ -32,28 +36,7 @@ impl Pass for Coalesce {
         ensures ran { Ran Coalesces graph.old.nodes result graph.new.nodes }
         ensures done { OnOk result (IsDone Coalesces graph.new.nodes) }
     {
-        let mut sweeps = Stable { pass: SweepOnce };
-        sweeps.run(graph)
-    }
-
-    ghost use Rattle.coalesce.specs.CoalesceLaws.{coalesce_sound, coalesce_refines, coalesce_falls};
-
-    ghost keeps_sound = { coalesce_sound };
-
-    ghost refines = { coalesce_refines };
-
-    ghost falls = { coalesce_falls };
-}
-
-// Goes over the nodes once.
-#[derive(Drop)]
-struct SweepOnce;
-
-impl Pass for SweepOnce {
-    ghost step = { Coalesces };
-
-    fn run(&mut self, graph: &mut Graph) -> Result<bool, NoMemory> {
-        sweep::sweep(graph)
+        sweep::take_all(graph)
     }
 
     ghost use Rattle.coalesce.specs.CoalesceLaws.{coalesce_sound, coalesce_refines, coalesce_falls};

@@ -5,7 +5,7 @@ ghost use Rattle.graph.specs.Graph.{node_at};
 ghost use Rattle.graph.specs.Stored.{plain};
 ghost use Rattle.graph.specs.Merging.{IsFanOut};
 ghost use Rattle.graph.specs.Steps.{can_fold, is_full_or_none, asks_for_any, AreTwins};
-ghost use Rattle.coalesce.specs.Pairs.{only_link, source_at, LookAlike, full_at, InOneGroup, IsInOneGroup, ComesFrom, AreLinksAlike, ReadAlike};
+ghost use Rattle.coalesce.specs.Pairs.{only_link, LookAlike, full_at, InOneGroup, IsInOneGroup, ComesFrom, AreLinksAlike, ReadAlike};
 
 use graph::{Graph, Group, Kind, Link, Node, NodeKey};
 
@@ -24,13 +24,6 @@ pub fn are_twins(graph: &Graph, keep: NodeKey, gone: NodeKey, targets: &[NodeKey
     }
 }
 
-// Where the one link of a node comes from.
-pub fn source_of(graph: &Graph, key: NodeKey) -> Option<NodeKey>
-    ensures { result ≡ source_at (node_at graph.now.nodes key) }
-{
-    Some(only_link(graph.node(key)?)?.from)
-}
-
 fn look_alike(a: &Node, b: &Node) -> bool
     ensures { IsTrue result ↔ LookAlike (plain a.now) (plain b.now) }
 {
@@ -43,7 +36,7 @@ fn look_alike(a: &Node, b: &Node) -> bool
 }
 
 // Whether it is a torch, a repeater or a comparator.
-fn can_fold(kind: Kind) -> bool
+pub fn can_fold(kind: Kind) -> bool
     ensures { result ≡ can_fold kind }
 {
     matches!(
@@ -53,7 +46,7 @@ fn can_fold(kind: Kind) -> bool
 }
 
 // The one link of a node, where it is of its back and brings something.
-fn only_link(node: &Node) -> Option<Link>
+pub fn only_link(node: &Node) -> Option<Link>
     ensures { result ≡ only_link (plain node.now).links }
 {
     match node.links.items.as_slice() {
@@ -63,7 +56,7 @@ fn only_link(node: &Node) -> Option<Link>
 }
 
 // Whether it is a torch or a repeater, which ask only whether there is any power.
-fn asks_for_any(kind: Kind) -> bool
+pub fn asks_for_any(kind: Kind) -> bool
     ensures { result ≡ asks_for_any kind }
 {
     matches!(kind, Kind::Torch | Kind::Repeater { .. })
@@ -149,7 +142,7 @@ fn bring_alike(graph: &Graph, kind: Kind, a: Link, b: Link) -> bool
     a.weight == b.weight || (asks_for_any(kind) && is_full(graph.node(a.from)))
 }
 
-fn is_full(node: Option<&Node>) -> bool
+pub fn is_full(node: Option<&Node>) -> bool
     ensures { result ≡ full_at (option_map plain (option_copied node.entry)) }
 {
     match node {

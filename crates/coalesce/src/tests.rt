@@ -3,7 +3,7 @@
 ghost use Rattle.std.specs.Prelude.{◌≡◌, ◌<◌, [], length, IfOk};
 
 use super::*;
-use crate::sweep::sweep;
+use crate::sweep::take_all;
 use graph::{Group, Kind, Link, Links, Node, Places, Pos};
 use node_arena::Key;
 use smallvec::SmallVec;
@@ -74,7 +74,7 @@ fn graph_of(
     rows: &[NodeRow],
     links: &[(u32, u32, Group, u8)],
 ) -> Result<Graph, NoMemory>
-    requires { length rows.now < 100 }
+    requires { length rows.now < 1000 }
 {
     let mut graph = nodes_of(alloc, rows)?;
     for (from, to, group, weight) in links {
@@ -84,7 +84,7 @@ fn graph_of(
 }
 
 fn nodes_of(alloc: Global, rows: &[NodeRow]) -> Result<Graph, NoMemory>
-    requires { length rows.now < 100 }
+    requires { length rows.now < 1000 }
     ensures { IfOk result (λ graph. length graph.nodes ≡ length rows.now) }
 {
     let mut graph = Graph::new(alloc);
@@ -113,17 +113,16 @@ fn add_link(
     Ok(())
 }
 
-// What so many sweeps leave has this text, and the last of them takes nothing.
+// What is left has this text, and no more twins.
 fn assert_left(
     rt: &impl Abort,
     alloc: Global,
-    mut graph: Graph,
-    sweeps: u8,
+    graph: &mut Graph,
+    took: bool,
     want: &[u8],
 ) -> Result<(), NoMemory> {
-    for left in (0..sweeps).rev() {
-        assert_eq!(rt; sweep(&mut graph)?, left > 0);
-    }
+    assert_eq!(rt; take_all(graph)?, took);
+    assert!(rt; !take_all(graph)?);
     let mut text = Vec::new(alloc);
     graph.push_text(&mut text)?;
     assert_eq!(rt; text.as_slice(), want);
@@ -143,7 +142,7 @@ fn nothing_to_do(rt: HostRuntime) -> Result<(), Fail> {
 
 #[test]
 fn twins(rt: HostRuntime) -> Result<(), Fail> {
-    let graph = graph_of(
+    let mut graph = graph_of(
         rt.alloc(),
         &[
             row((0, 0, 0), Kind::Lamp, 1),
@@ -167,7 +166,7 @@ fn twins(rt: HostRuntime) -> Result<(), Fail> {
         link 2 0 back 0\n\
         link 2 1 back 0\n\
         link 4 2 back 0\n";
-    assert_left(&rt, rt.alloc(), graph, 2, want)?;
+    assert_left(&rt, rt.alloc(), &mut graph, true, want)?;
     Ok(())
 }
 
@@ -178,7 +177,7 @@ fn twins_with_a_pending_tick(rt: HostRuntime) -> Result<(), Fail> {
         priority: 3,
         ..row((2, 1, 0), Kind::Torch, 1)
     };
-    let graph = graph_of(
+    let mut graph = graph_of(
         rt.alloc(),
         &[
             row((0, 0, 0), Kind::Lamp, 1),
@@ -204,13 +203,13 @@ fn twins_with_a_pending_tick(rt: HostRuntime) -> Result<(), Fail> {
         link 3 1 back 0\n\
         link 4 2 back 0\n\
         link 4 3 back 0\n";
-    assert_left(&rt, rt.alloc(), graph, 1, want)?;
+    assert_left(&rt, rt.alloc(), &mut graph, false, want)?;
     Ok(())
 }
 
 #[test]
 fn merged_comparators(rt: HostRuntime) -> Result<(), Fail> {
-    let graph = graph_of(
+    let mut graph = graph_of(
         rt.alloc(),
         &[
             row((0, 1, 0), Kind::Lamp, 0),
@@ -234,14 +233,14 @@ fn merged_comparators(rt: HostRuntime) -> Result<(), Fail> {
         link 1 0 back 0\n\
         link 2 1 back 0\n\
         link 1 4 back 0\n";
-    assert_left(&rt, rt.alloc(), graph, 2, want)?;
+    assert_left(&rt, rt.alloc(), &mut graph, true, want)?;
     Ok(())
 }
 
 // The links of nodes 1 and 2 into node 3 are in two groups.
 #[test]
 fn back_and_lock(rt: HostRuntime) -> Result<(), Fail> {
-    let graph = graph_of(
+    let mut graph = graph_of(
         rt.alloc(),
         &[
             row((0, 1, 0), Kind::Lever, 0),
@@ -269,14 +268,14 @@ fn back_and_lock(rt: HostRuntime) -> Result<(), Fail> {
         link 2 3 back 0\n\
         link 1 3 side 0\n\
         link 3 4 back 0\n";
-    assert_left(&rt, rt.alloc(), graph, 1, want)?;
+    assert_left(&rt, rt.alloc(), &mut graph, false, want)?;
     Ok(())
 }
 
 // The source of the torches is one of them.
 #[test]
 fn torch_that_feeds_itself(rt: HostRuntime) -> Result<(), Fail> {
-    let graph = graph_of(
+    let mut graph = graph_of(
         rt.alloc(),
         &[
             row((0, 0, 0), Kind::Lamp, 1),
@@ -300,15 +299,15 @@ fn torch_that_feeds_itself(rt: HostRuntime) -> Result<(), Fail> {
         link 3 1 back 0\n\
         link 3 2 back 1\n\
         link 3 3 back 0\n";
-    assert_left(&rt, rt.alloc(), graph, 1, want)?;
+    assert_left(&rt, rt.alloc(), &mut graph, false, want)?;
     Ok(())
 }
 
 // Torches of a lever are twins whatever they lose, and so are then the comparators behind them,
-// of which the ones before come in a second sweep.
+// of which the ones before come in a second round.
 #[test]
 fn twins_of_twins(rt: HostRuntime) -> Result<(), Fail> {
-    let graph = graph_of(
+    let mut graph = graph_of(
         rt.alloc(),
         &[
             row((0, 0, 0), COMPARATOR, 15),
@@ -338,7 +337,7 @@ fn twins_of_twins(rt: HostRuntime) -> Result<(), Fail> {
         link 3 0 back 0\n\
         link 2 3 back 0\n\
         link 3 6 back 2\n";
-    assert_left(&rt, rt.alloc(), graph, 3, want)?;
+    assert_left(&rt, rt.alloc(), &mut graph, true, want)?;
     Ok(())
 }
 
@@ -346,7 +345,7 @@ fn twins_of_twins(rt: HostRuntime) -> Result<(), Fail> {
 // groups of the repeater. The lowest goes first: it takes 2, and 3 stays.
 #[test]
 fn lower_nodes_go_first(rt: HostRuntime) -> Result<(), Fail> {
-    let graph = graph_of(
+    let mut graph = graph_of(
         rt.alloc(),
         &[
             row((0, 0, 0), Kind::Lever, 0),
@@ -376,6 +375,210 @@ fn lower_nodes_go_first(rt: HostRuntime) -> Result<(), Fail> {
         link 1 4 back 0\n\
         link 3 4 side 0\n\
         link 4 5 back 0\n";
-    assert_left(&rt, rt.alloc(), graph, 2, want)?;
+    assert_left(&rt, rt.alloc(), &mut graph, true, want)?;
+    Ok(())
+}
+
+// Two levels of repeaters behind a lever become a chain. The repeaters 4 and 6 read one node from
+// the start, 5 and 7 another one; that 8 takes 9 makes twins of 4 and 5, which come in the next round.
+#[test]
+fn a_tree_becomes_a_chain(rt: HostRuntime) -> Result<(), Fail> {
+    let mut graph = graph_of(
+        rt.alloc(),
+        &[
+            row((0, 0, 0), Kind::Lamp, 0),
+            row((1, 0, 0), Kind::Lamp, 0),
+            row((2, 0, 0), Kind::Lamp, 0),
+            row((3, 0, 0), Kind::Lamp, 0),
+            row((4, 0, 0), REPEATER, 0),
+            row((5, 0, 0), REPEATER, 0),
+            row((6, 0, 0), REPEATER, 0),
+            row((7, 0, 0), REPEATER, 0),
+            row((8, 0, 0), REPEATER, 0),
+            row((9, 0, 0), REPEATER, 0),
+            row((10, 0, 0), Kind::Lever, 0),
+        ],
+        &[
+            (4, 0, Group::Back, 0),
+            (5, 1, Group::Back, 0),
+            (6, 2, Group::Back, 0),
+            (7, 3, Group::Back, 0),
+            (8, 4, Group::Back, 0),
+            (9, 5, Group::Back, 0),
+            (8, 6, Group::Back, 0),
+            (9, 7, Group::Back, 0),
+            (10, 8, Group::Back, 0),
+            (10, 9, Group::Back, 0),
+        ],
+    )?;
+    let want = b"graph 7 6\n\
+        node 0 lamp 0 0 0 0\n\
+        node 1 lamp 1 0 0 0\n\
+        node 2 lamp 2 0 0 0\n\
+        node 3 lamp 3 0 0 0\n\
+        node 4 repeater 4 0 0 0 delay 1\n\
+        node 8 repeater 8 0 0 0 delay 1\n\
+        node 10 lever 10 0 0 0\n\
+        link 4 0 back 0\n\
+        link 4 1 back 0\n\
+        link 4 2 back 0\n\
+        link 4 3 back 0\n\
+        link 8 4 back 0\n\
+        link 10 8 back 0\n";
+    assert_left(&rt, rt.alloc(), &mut graph, true, want)?;
+    assert_stands_for(&rt, &graph, 4, &[6, 5, 7]);
+    assert_stands_for(&rt, &graph, 8, &[9]);
+    Ok(())
+}
+
+// The further places of the node are (x, 0, 0), for these x.
+fn assert_stands_for(rt: &impl Abort, graph: &Graph, number: u32, want: &[i32]) {
+    match graph.node(Key::new(number)) {
+        Some(node) => assert!(rt;
+            node.also
+                .items
+                .iter()
+                .map(|pos| pos.x)
+                .eq(want.iter().copied())
+        ),
+        None => assert!(rt; false),
+    }
+}
+
+// Two equal rows, one node behind another, with numbers that rise or fall along the rows.
+fn rows_of_repeaters(
+    alloc: Global,
+    row_links: &[(u32, u32, Group, u8)],
+) -> Result<Graph, NoMemory> {
+    graph_of(
+        alloc,
+        &[
+            row((0, 0, 0), Kind::Lever, 0),
+            row((1, 0, 0), REPEATER, 0),
+            row((2, 0, 0), REPEATER, 0),
+            row((3, 0, 0), REPEATER, 0),
+            row((4, 0, 0), REPEATER, 0),
+            row((5, 0, 0), REPEATER, 0),
+            row((6, 0, 0), REPEATER, 0),
+            row((7, 0, 0), Kind::Lamp, 0),
+            row((8, 0, 0), Kind::Lamp, 0),
+        ],
+        row_links,
+    )
+}
+
+#[test]
+fn rows_that_rise(rt: HostRuntime) -> Result<(), Fail> {
+    let mut graph = rows_of_repeaters(
+        rt.alloc(),
+        &[
+            (0, 1, Group::Back, 0),
+            (0, 2, Group::Back, 0),
+            (1, 3, Group::Back, 0),
+            (2, 4, Group::Back, 0),
+            (3, 5, Group::Back, 0),
+            (4, 6, Group::Back, 0),
+            (5, 7, Group::Back, 0),
+            (6, 8, Group::Back, 0),
+        ],
+    )?;
+    let want = b"graph 6 5\n\
+        node 0 lever 0 0 0 0\n\
+        node 1 repeater 1 0 0 0 delay 1\n\
+        node 3 repeater 3 0 0 0 delay 1\n\
+        node 5 repeater 5 0 0 0 delay 1\n\
+        node 7 lamp 7 0 0 0\n\
+        node 8 lamp 8 0 0 0\n\
+        link 0 1 back 0\n\
+        link 1 3 back 0\n\
+        link 3 5 back 0\n\
+        link 5 7 back 0\n\
+        link 5 8 back 0\n";
+    assert_left(&rt, rt.alloc(), &mut graph, true, want)?;
+    Ok(())
+}
+
+#[test]
+fn rows_that_fall(rt: HostRuntime) -> Result<(), Fail> {
+    let mut graph = rows_of_repeaters(
+        rt.alloc(),
+        &[
+            (3, 1, Group::Back, 0),
+            (4, 2, Group::Back, 0),
+            (5, 3, Group::Back, 0),
+            (6, 4, Group::Back, 0),
+            (0, 5, Group::Back, 0),
+            (0, 6, Group::Back, 0),
+            (1, 7, Group::Back, 0),
+            (2, 8, Group::Back, 0),
+        ],
+    )?;
+    let want = b"graph 6 5\n\
+        node 0 lever 0 0 0 0\n\
+        node 1 repeater 1 0 0 0 delay 1\n\
+        node 3 repeater 3 0 0 0 delay 1\n\
+        node 5 repeater 5 0 0 0 delay 1\n\
+        node 7 lamp 7 0 0 0\n\
+        node 8 lamp 8 0 0 0\n\
+        link 3 1 back 0\n\
+        link 5 3 back 0\n\
+        link 0 5 back 0\n\
+        link 1 7 back 0\n\
+        link 1 8 back 0\n";
+    assert_left(&rt, rt.alloc(), &mut graph, true, want)?;
+    Ok(())
+}
+
+// The torches 2 and 3 are twins at once, 1 and 2 only once 4 has taken 5. By then 2 has taken 3,
+// and the repeater reads 1 at its back and 2 at its side. So 1 and 2 stay apart.
+#[test]
+fn twins_of_a_later_round_come_later(rt: HostRuntime) -> Result<(), Fail> {
+    let mut graph = graph_of(
+        rt.alloc(),
+        &[
+            row((0, 0, 0), REPEATER, 0),
+            row((1, 0, 0), Kind::Torch, 0),
+            row((2, 0, 0), Kind::Torch, 0),
+            row((3, 0, 0), Kind::Torch, 0),
+            row((4, 0, 0), Kind::Torch, 1),
+            row((5, 0, 0), Kind::Torch, 1),
+            row((6, 0, 0), Kind::Lever, 0),
+        ],
+        &[
+            (1, 0, Group::Back, 0),
+            (3, 0, Group::Side, 0),
+            (4, 1, Group::Back, 0),
+            (5, 2, Group::Back, 0),
+            (5, 3, Group::Back, 0),
+            (6, 4, Group::Back, 0),
+            (6, 5, Group::Back, 0),
+        ],
+    )?;
+    let want = b"graph 5 5\n\
+        node 0 repeater 0 0 0 0 delay 1\n\
+        node 1 torch 1 0 0 0\n\
+        node 2 torch 2 0 0 0\n\
+        node 4 torch 4 0 0 1\n\
+        node 6 lever 6 0 0 0\n\
+        link 1 0 back 0\n\
+        link 2 0 side 0\n\
+        link 4 1 back 0\n\
+        link 4 2 back 0\n\
+        link 6 4 back 0\n";
+    assert_left(&rt, rt.alloc(), &mut graph, true, want)?;
+    Ok(())
+}
+
+// Lamps are no twins, however many read one lever.
+#[test]
+fn many_lamps_stay(rt: HostRuntime) -> Result<(), Fail> {
+    let lamp = row((0, 0, 0), Kind::Lamp, 0);
+    let mut graph = nodes_of(rt.alloc(), &[lamp; 200])?;
+    let lever = graph.add_node(node(rt.alloc(), row((1, 0, 0), Kind::Lever, 0)))?;
+    for number in 0..200 {
+        add_link(&mut graph, lever.number(), number, Group::Back, 0)?;
+    }
+    assert!(rt; !take_all(&mut graph)?);
+    assert_eq!(rt; (graph.node_count(), graph.link_count()), (201, 200));
     Ok(())
 }

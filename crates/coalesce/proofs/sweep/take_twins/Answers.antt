@@ -1,60 +1,55 @@
 -- One pair more is tried, in the end all: a twin is among those that are tried.
-use Rattle.std.proofs.Common.{◌≡◌, ◌<◌, ℕ, List, sym, ◌∙◌, subst, length, get_or}
+use Rattle.std.proofs.Common.{◌≡◌, ℕ, List, refl, sym, ◌∙◌, subst}
 use Rattle.std.specs.Prelude.{filter, nat_lt}
-use Rattle.std.proofs.lemmas.Bool.{ltb-true, lt-ltb}
 use Rattle.circuit.specs.Circuit.{Among}
-use Rattle.graph.specs.Steps.{AreTwins, Coalesces}
+use Rattle.graph.specs.Steps.{Coalesces}
 use Rattle.pass_frame.specs.Frame.{Stays}
-use Rattle.pass_frame.proofs.FrameSteps.{went_reaches}
-use Rattle.coalesce.specs.FanOuts.{targets_of}
-use Rattle.coalesce.specs.Tried.{HasNoTwin}
-use Rattle.coalesce.proofs.FanSteps.{each_more, each_among}
-use Rattle.coalesce.proofs.TriedSteps.{tried_err, went_tried, went_further, tried_fact, all_tried, filtered, among_filtered, twin_listed, fans_kept}
+use Rattle.pass_frame.proofs.Sweeps.{took_reaches}
+use Rattle.coalesce.specs.Looks.{members}
+use Rattle.coalesce.proofs.TriedSteps.{twins_err, took_pair, pair_reached, left_first, left_next, twins_wait, lookless, twin_later, few_still, stands_above}
 use Rattle.coalesce.proofs.sweep.take_twins.Goals as goal
 
+pub returns-in_default-clause-wait : goal.returns-in_default-clause-wait
+returns-in_default-clause-wait c = lookless c.args.graph.now.nodes c.args.waiting.now.numbers c.args.keep (sym c.look_of.ensures ∙ c.in_default.is) c.requires.wait
+
 pub returns-in_err-later-clause-tried : goal.returns-in_err-later-clause-tried
-returns-in_err-later-clause-tried c = tried_err (HasNoTwin c.args.keep) c.args.graph.now.nodes c.args.graph.now.nodes c.from_residual.result c.from_residual.ensures.0 Stays
+returns-in_err-later-clause-tried c = twins_err c.args.graph.now.nodes c.args.graph.now.nodes c.from_residual.result c.from_residual.ensures.0 Stays
+
+pub loop-gone-init : goal.loop-gone-init
+loop-gone-init c = record { known = c.requires.known; took = refl; left = left_first c.args.graph.now.nodes c.args.waiting.now.numbers c.args.keep c.deref-gone-items.result.now c.requires.wait }
 
 pub take_pair-requires-clause-earlier : goal.take_pair-requires-clause-earlier
-take_pair-requires-clause-earlier c =
-    let items : c.deref-gone-items.result.now ≡ filter (λ key. nat_lt c.args.keep key) (targets_of c.args.fans.now.lists.items c.in-Some.source) = c.deref-gone-items.ensures.value ∙ c.in_ok-later.ensures in
-    ltb-true c.args.keep c.gone-item.result
-    (filtered (λ key. nat_lt c.args.keep key) (targets_of c.args.fans.now.lists.items c.in-Some.source) c.loop-gone.gone-index c.gone-item.result
-    (subst (λ (xs : List ℕ). c.loop-gone.gone-index < length xs) items c.loop-gone-test.true)
-    (subst (λ (xs : List ℕ). c.gone-item.result ≡ get_or xs c.loop-gone.gone-index c.gone-item.result) items c.gone-item.is))
+take_pair-requires-clause-earlier c = stands_above c.args.keep (members c.args.known.now.groups.lists c.in-Some.look) c.deref-gone-items.result.now c.loop-gone.gone-index c.gone-item.result (c.deref-gone-items.ensures.value ∙ c.in_ok-later.ensures) c.loop-gone-test.true c.gone-item.is
 
 pub returns-in_err-took-clause-tried : goal.returns-in_err-took-clause-tried
 returns-in_err-took-clause-tried c =
-    tried_err (HasNoTwin c.args.keep) c.args.graph.now.nodes c.take_pair.new.graph.nodes c.from_residual-in_err-took.result c.from_residual-in_err-took.ensures.0
-    (went_tried (λ g. AreTwins g c.args.keep c.gone-item.result → ⊥) c.args.graph.now.nodes c.loop-gone.graph.nodes c.take_pair.new.graph.nodes c.loop-gone.took c.take_pair.result
-    c.loop-gone.invariant.went c.take_pair.ensures.tried)
+    twins_err c.args.graph.now.nodes c.take_pair.new.graph.nodes c.from_residual-in_err-took.result c.from_residual-in_err-took.ensures.0
+    (pair_reached c.args.keep c.gone-item.result c.args.graph.now.nodes c.loop-gone.graph.nodes c.take_pair.new.graph.nodes c.loop-gone.took c.take_pair.result (stands_above c.args.keep (members c.args.known.now.groups.lists c.in-Some.look) c.deref-gone-items.result.now c.loop-gone.gone-index c.gone-item.result (c.deref-gone-items.ensures.value ∙ c.in_ok-later.ensures) c.loop-gone-test.true c.gone-item.is) c.loop-gone.invariant.took
+    c.take_pair.ensures.tried)
 
 pub loop-gone-preserved : goal.loop-gone-preserved
 loop-gone-preserved c = record {
-  fans = c.in_ok-took.ensures.fans;
-  went = went_further (λ g. AreTwins g c.args.keep c.gone-item.result → ⊥) c.args.graph.now.nodes c.loop-gone.graph.nodes c.take_pair.new.graph.nodes c.loop-gone.took c.in_ok-took.field-0
-      c.loop-gone.invariant.went c.in_ok-took.ensures.tried;
-  tried = λ none.
-      let tried = tried_fact (λ g. AreTwins g c.args.keep c.gone-item.result → ⊥) c.args.graph.now.nodes c.loop-gone.graph.nodes c.take_pair.new.graph.nodes c.loop-gone.took c.in_ok-took.field-0
-      c.loop-gone.invariant.went c.in_ok-took.ensures.tried none in
-      each_more (λ key. AreTwins c.args.graph.now.nodes c.args.keep key → ⊥) c.deref-gone-items.result.now c.loop-gone.gone-index c.gone-item.result c.loop-gone-test.true c.gone-item.is
-      (c.loop-gone.invariant.tried tried.0) tried.1;
+  known = c.in_ok-took.ensures.known;
+  took = took_pair c.args.keep c.gone-item.result c.args.graph.now.nodes c.loop-gone.graph.nodes c.take_pair.new.graph.nodes c.loop-gone.took c.in_ok-took.field-0 (stands_above c.args.keep (members c.args.known.now.groups.lists c.in-Some.look) c.deref-gone-items.result.now c.loop-gone.gone-index c.gone-item.result (c.deref-gone-items.ensures.value ∙ c.in_ok-later.ensures) c.loop-gone-test.true c.gone-item.is) c.loop-gone.invariant.took
+      c.in_ok-took.ensures.tried;
+  left = left_next c.args.graph.now.nodes c.loop-gone.graph.nodes c.take_pair.new.graph.nodes c.args.waiting.now.numbers c.args.keep c.loop-gone.took c.in_ok-took.field-0 c.deref-gone-items.result.now c.loop-gone.gone-index
+      c.gone-item.result c.loop-gone-test.true c.gone-item.is c.in_ok-took.ensures.tried c.loop-gone.invariant.left;
 }
 
-pub returns-in_err-sort-clause-tried : goal.returns-in_err-sort-clause-tried
-returns-in_err-sort-clause-tried c =
-    tried_err (HasNoTwin c.args.keep) c.args.graph.now.nodes c.loop-gone.graph.nodes c.from_residual-in_err-sort.result c.from_residual-in_err-sort.ensures.0
-    (went_reaches Coalesces c.args.graph.now.nodes c.loop-gone.graph.nodes c.loop-gone.graph.nodes c.loop-gone.took c.loop-gone.invariant.went Stays)
+pub add_readers-requires : goal.add_readers-requires
+add_readers-requires c = few_still c.args.graph.now.nodes c.loop-gone.graph.nodes c.args.waiting.now.numbers (took_reaches Coalesces c.args.graph.now.nodes c.loop-gone.graph.nodes c.loop-gone.took c.loop-gone.invariant.took) c.requires.few
 
-pub returns-clause-tried : goal.returns-clause-tried
-returns-clause-tried c =
-    let items : c.deref-gone-items.result.now ≡ filter (λ key. nat_lt c.args.keep key) (targets_of c.args.fans.now.lists.items c.in-Some.source) = c.deref-gone-items.ensures.value ∙ c.in_ok-later.ensures in
-    all_tried (HasNoTwin c.args.keep) c.args.graph.now.nodes c.loop-gone.graph.nodes c.loop-gone.took c.loop-gone.invariant.went
-    (λ none gone less twins.
-    each_among (λ key. AreTwins c.args.graph.now.nodes c.args.keep key → ⊥) c.deref-gone-items.result.now c.loop-gone.gone-index c.loop-gone-test.false (c.loop-gone.invariant.tried none) gone
-    (subst (λ (xs : List ℕ). Among xs gone) (sym items) (among_filtered (λ key. nat_lt c.args.keep key) (targets_of c.args.fans.now.lists.items c.in-Some.source) gone
-    (twin_listed c.args.graph.now.nodes c.args.keep gone c.in-Some.source c.args.fans.now.lists.items c.requires (sym c.in-Some.is ∙ c.source_of.ensures) twins)
-    (lt-ltb c.args.keep gone less))) twins)
+pub returns-in_err-add_readers-clause-tried : goal.returns-in_err-add_readers-clause-tried
+returns-in_err-add_readers-clause-tried c =
+    twins_err c.args.graph.now.nodes c.loop-gone.graph.nodes c.from_residual-in_err-add_readers.result c.from_residual-in_err-add_readers.ensures.0
+    (took_reaches Coalesces c.args.graph.now.nodes c.loop-gone.graph.nodes c.loop-gone.took c.loop-gone.invariant.took)
 
-pub returns-clause-fans : goal.returns-clause-fans
-returns-clause-fans c = fans_kept c.loop-gone.graph.nodes c.loop-gone.fans.lists.items c.sort.new.self.lists.items c.loop-gone.invariant.fans c.in_ok-sort.ensures
+pub returns-clause-wait : goal.returns-clause-wait
+returns-clause-wait c =
+    let items : c.deref-gone-items.result.now ≡ filter (λ key. nat_lt c.args.keep key) (members c.args.known.now.groups.lists c.in-Some.look) = c.deref-gone-items.ensures.value ∙ c.in_ok-later.ensures in
+    twins_wait c.args.graph.now.nodes c.loop-gone.graph.nodes c.args.waiting.now.numbers c.add_readers.new.waiting.numbers c.args.keep c.loop-gone.took c.deref-gone-items.result.now c.loop-gone.gone-index
+    c.loop-gone.known.fans.lists.items c.loop-gone.known.groups.lists c.loop-gone.invariant.left c.loop-gone-test.false
+    (λ b less twins. subst (λ (xs : List ℕ). Among xs b) (sym items)
+    (twin_later c.args.graph.now.nodes c.args.keep b c.in-Some.look c.args.known.now.fans.lists.items c.args.known.now.groups.lists c.requires.known (sym c.look_of.ensures ∙ c.in-Some.is) less twins))
+    c.loop-gone.invariant.known c.in_ok-add_readers.ensures.keeps
+    (λ took key look a e. c.in_ok-add_readers.ensures.all took key look (subst (λ (xs : List ℕ). Among xs key) (sym c.targets-readers.ensures) a) e)

@@ -1,12 +1,12 @@
-use Rattle.std.proofs.Common.{◌≡◌, ◌<◌, ℕ, false, get_or}
-use Rattle.graph.specs.Steps.{AreTwins, Coalesces}
-use Rattle.pass_frame.proofs.FrameSteps.{Went}
-use Rattle.coalesce.specs.FanOuts.{AreFanOuts}
+use Rattle.graph.specs.Steps.{Coalesces}
+use Rattle.pass_frame.specs.Took.{Took}
+use Rattle.coalesce.specs.Tried.{IsKnown}
+use Rattle.coalesce.proofs.TriedSteps.{Left}
 use Rattle.coalesce.proofs.sweep.take_twins.Given as goal
 
 abbrev pub invariant-loop-gone : goal.invariant-loop-gone
 invariant-loop-gone l = record {
-  fans : AreFanOuts l.graph.nodes l.fans.lists.items;
-  went : Went Coalesces l.initial.graph.nodes l.took l.graph.nodes;
-  tried : l.took ≡ false → (index : ℕ) → index < l.gone-index → AreTwins l.initial.graph.nodes l.keep (get_or l.gone-items index 0) → ⊥;
+  known : IsKnown l.graph.nodes l.known.fans.lists.items l.known.groups.lists;
+  took : Took Coalesces l.initial.graph.nodes l.took l.graph.nodes;
+  left : Left l.initial.graph.nodes l.graph.nodes l.waiting.numbers l.keep l.took l.gone-items l.gone-index;
 }

@@ -1,10 +1,7 @@
 -- One node stands for the places of another, which goes.
-use Rattle.std.proofs.Common.{◌≡◌, List, ◌++◌, ◌∷◌, Option, Some, None, ◌∙◌, sym, ap, ap₂, get_or, map, set, rules}
+use Rattle.std.proofs.Common.{◌≡◌, Some, None, ◌∙◌, sym, ap, get_or, map, set, rules}
 use Rattle.std.specs.Option.{option_map, option_copied, option_copied_mut}
 use Rattle.std.proofs.Math.Seq.{map-set_same}
-use Rattle.graph.specs.declared.Node.{Node as StoredNode}
-use Rattle.graph.specs.declared.Links.{Links}
-use Rattle.graph.specs.Graph.{Graph}
 use Rattle.graph.specs.Merging.{with_places}
 use Rattle.graph.specs.Stored.{plain, plain_nodes, room_at}
 use Rattle.graph.proofs.EditSteps.{standing-plain}
