@@ -32,11 +32,12 @@ abbrev pub read_in : Plan → List Pos → State Pos → Pos → Readings
 read_in b marks s = (world_circuit b marks).readings (given_in b marks s)
 
 -- All is right in a state: the wires have the powers that are right for what the components give then, there are no other such powers,
--- and each place reads under them. No level is above 15, and no value above the top of its component.
+-- and each place reads under them. No level and no power that is read is above 15, and no value above the top of its component.
 pub record IsRightIn (b : Plan) (marks : List Pos) (s : State Pos) : Type 0 where
   pub power : Pos → ℕ
   pub right : AreRight b (given_in b marks s) power
   pub one : (other : Pos → ℕ) → AreRight b (given_in b marks s) other → (p : Pos) → wire_at b p ≡ true → other p ≡ power p
   pub reads : (p : Pos) → read_in b marks s p ≡ readings_at b (level_with b (given_in b marks s) power) p
   pub small : (p : Pos) → level_with b (given_in b marks s) power p ≤ 15
+  pub read_small : (p : Pos) → ((read_in b marks s p).back ≤ 15) × ((read_in b marks s p).side ≤ 15)
   pub values : Bounded (world_circuit b marks) s

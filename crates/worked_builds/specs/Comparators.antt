@@ -13,9 +13,9 @@ barrel_and_comparator = with_levels (7 ∷ 0 ∷ 0 ∷ []) (box 3 1 1 (barrel �
 abbrev pub barrel_behind_stone : Plan
 barrel_behind_stone = with_levels (7 ∷ 0 ∷ 0 ∷ 0 ∷ []) (box 4 1 1 (barrel ∷ stone ∷ Comparator West false ∷ wire ∷ []))
 
--- a composter, a comparator that reads it, and a lamp
+-- a composter of level 5, a comparator that reads it, and a wire
 abbrev pub composter_and_comparator : Plan
-composter_and_comparator = box 3 1 1 (Composter 5 ∷ Comparator West false ∷ Lamp false ∷ [])
+composter_and_comparator = box 3 1 1 (Composter 5 ∷ Comparator West false ∷ wire ∷ [])
 
 -- a lever between two comparators, each before a lamp
 abbrev pub two_comparators : Plan

@@ -20,7 +20,7 @@ twins = box 3 3 1 (
 abbrev pub twins_with_a_pending_tick : Plan
 twins_with_a_pending_tick = record twins { pending = record { pos = at 2 1 0; due = 5; priority = 3 } ∷ [] }
 
--- a torch whose own stone gets power from a wire above it
+-- a torch, the stone above it, beside this a wire, and below the wire the stone of the torch
 abbrev pub clock : Plan
 clock = box 2 3 1 (Air ∷ Air ∷ stone ∷ WallTorch East true ∷ wire ∷ stone ∷ [])
 

@@ -164,9 +164,9 @@ pub fn a_comparator_reads_a_barrel_through_a_stone()
 
 /// It reads a composter too.
 pub fn a_comparator_reads_a_composter()
-    ensures { ShowsOnly composter_and_comparator []
+    ensures { ShowsOnly composter_and_comparator (at 2 0 0 ∷ [])
         (ticks 1 ∷ [])
-        (single (0 ∷ 1 ∷ [])) }
+        (single (0 ∷ 5 ∷ [])) }
 {}
 
 /// A lever turns on the comparators at both of its sides.
