@@ -341,11 +341,3 @@ dedup_step old new key index links slots link has rest here n e =
       worse = b.worse;
       after = e;
     }
-
--- where there was no link, nothing is noted
-pub none_held : (slots : List (Option ℕ)) → HoldsLeast [] slots → IsEmpty slots
-none_held slots holds slot = by_entry (weight_in slots slot) refl
-  where
-    by_entry : (entry : Option ℕ) → weight_in slots slot ≡ entry → weight_in slots slot ≡ None
-    by_entry None e = e
-    by_entry (Some weight) e = let f = holds.found slot weight e in absurd (let bad : None ≡ Some f.1 = f.2 in cc)

@@ -1,10 +1,9 @@
 -- A graph into one of whose nodes other links go.
 use Rattle.std.proofs.Common.{◌≡◌, ℕ, zero, suc, ◌+◌, ◌-◌, ◌<◌, List, [], ◌∷◌, Option, Some, None, refl, sym, ap, ◌∙◌, arith, length}
 use Rattle.std.specs.Prelude.{remove, slice_get, option_map, IsSome}
-use Rattle.std.proofs.lemmas.List.{get_or-set_other}
 use Rattle.graph.specs.declared.Link.{Link}
 use Rattle.graph.specs.Graph.{Node, Nodes, node_at, Lives, HasLink}
-use Rattle.graph.specs.LinkAt.{links_of, EachLink, SameOthers}
+use Rattle.graph.specs.LinkAt.{links_of, EachLink}
 use Rattle.graph.specs.Edits.{change, relinked, without_link, set_links, drop_link}
 use Rattle.graph.specs.Sieving.{Sieve, begun}
 use Rattle.graph.proofs.LinkSteps.{has_link, within_links}
@@ -18,11 +17,11 @@ change_twice f h both e (Some node ∷ g) zero = ap (λ (new : Node). Some new �
 change_twice f h both e (n ∷ g) (suc key) = ap (λ (rest : Nodes). n ∷ rest) (change_twice f h both e g key)
 
 -- a link is dropped
-pub sieved_drop : (g : Nodes) (key : ℕ) (links : List Link) (index : ℕ) → set_links g key (remove links index) ≡ drop_link (set_links g key links) key index
+sieved_drop : (g : Nodes) (key : ℕ) (links : List Link) (index : ℕ) → set_links g key (remove links index) ≡ drop_link (set_links g key links) key index
 sieved_drop g key links index = sym (change_twice (without_link index) (relinked links) (relinked (remove links index)) (λ node. refl) g key)
 
 -- the links are put back
-pub sieved_back : (g : Nodes) (key : ℕ) (links : List Link) → set_links (set_links g key []) key links ≡ set_links g key links
+sieved_back : (g : Nodes) (key : ℕ) (links : List Link) → set_links (set_links g key []) key links ≡ set_links g key links
 sieved_back g key links = change_twice (relinked links) (relinked []) (relinked links) (λ node. refl) g key
 
 -- its own links change nothing
@@ -38,9 +37,6 @@ sieved_links (None ∷ g) zero links lives = absurd (cc)
 sieved_links (Some node ∷ g) zero links lives = refl
 sieved_links (n ∷ g) (suc key) links lives = sieved_links g key links lives
 
-pub sieved_others : (g : Nodes) (key : ℕ) (links : List Link) → SameOthers g (set_links g key links) key
-sieved_others g key links other n = get_or-set_other g key other (option_map (relinked links) (node_at g key)) None n
-
 -- what was taken out of a node
 pub taken_of : (g : Nodes) (key : ℕ) (links : Sieve) → Some links ≡ option_map begun (node_at g key) → Lives g key × (links.items ≡ links_of (node_at g key)) × (links.index ≡ 0)
 taken_of g key links e = by_entry (node_at g key) e
@@ -49,13 +45,6 @@ taken_of g key links e = by_entry (node_at g key) e
     by_entry None e = absurd (cc)
     by_entry (Some node) e = let same : links ≡ begun node = cc in (refl, ap (λ (one : Sieve). one.items) same, ap (λ (one : Sieve). one.index) same)
 
-pub none_taken : (g : Nodes) (key : ℕ) → None ≡ option_map begun (node_at g key) → node_at g key ≡ None
-none_taken g key e = by_entry (node_at g key) e
-  where
-    by_entry : (entry : Option Node) → None ≡ option_map begun entry → entry ≡ None
-    by_entry None e = refl
-    by_entry (Some node) e = absurd (cc)
-
 -- a link that is to be judged goes into the node
 pub sieved_link : (g : Nodes) (key : ℕ) (links : List Link) (index : ℕ) (link : Link) → Lives g key → slice_get links index ≡ Some link → HasLink (set_links g key links) key index link
 sieved_link g key links index link lives e = has_link (set_links g key links) key index link (ap (λ (ls : List Link). slice_get ls index) (sieved_links g key links lives) ∙ e)
@@ -63,10 +52,6 @@ sieved_link g key links index link lives e = has_link (set_links g key links) ke
 -- what holds of each link that is left holds of each link into the node
 pub sieved_each : (P : Link → Type 0) (g : Nodes) (key : ℕ) (links : List Link) → Lives g key → ((i : ℕ) (link : Link) → slice_get links i ≡ Some link → P link) → EachLink P (node_at (set_links g key links) key)
 sieved_each P g key links lives each i link e = each i link (ap (λ (ls : List Link). slice_get ls i) (sym (sieved_links g key links lives)) ∙ e)
-
--- where no node stands, no link does
-pub none_each : (P : Link → Type 0) (g : Nodes) (key : ℕ) → node_at g key ≡ None → EachLink P (node_at g key)
-none_each P g key none i link e = let bad : None ≡ Some link = ap (λ (entry : Option Node). slice_get (links_of entry) i) (sym none) ∙ e in absurd (cc)
 
 -- each link that is judged leaves fewer to be judged
 pub fewer_kept : (before after : Sieve) (link : Link) → slice_get before.items before.index ≡ Some link → after ≡ record { items = before.items; index = before.index + 1 } →
