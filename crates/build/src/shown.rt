@@ -21,12 +21,11 @@ fn out_kind(marks: &Marks, pos: Pos, block: Block) -> Option<OutKind>
         Block::Lamp { .. } => Some(OutKind::Lamp),
         Block::Trapdoor { .. } => Some(OutKind::Trapdoor),
         Block::Note { .. } => Some(OutKind::Note),
-        Block::Wire { .. } =>
-            if marks.contains(pos) {
-                Some(OutKind::Wire)
-            } else {
-                None
-            },
+        Block::Wire { .. } => if marks.contains(pos) {
+            Some(OutKind::Wire)
+        } else {
+            None
+        },
         Block::Air
         | Block::Inert { .. }
         | Block::Slab { .. }

@@ -11,11 +11,11 @@ ghost use Rattle.schematic.specs.Palette.{number_of, clash, unknown_text, block_
 ghost use Rattle.schematic.specs.Code.{plain_entries};
 
 use block_table::{Block, parse_state};
-use std::collections::BTreeMap;
 use nbt::{Field, Tree};
 use packed_block::PackedBlock;
 use rp_text::NoMemory;
 use std::alloc::Global;
+use std::collections::BTreeMap;
 
 /// From numbers to blocks.
 pub type Blocks = BTreeMap<i64, PackedBlock>;

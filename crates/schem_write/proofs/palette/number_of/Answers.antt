@@ -26,13 +26,15 @@ pub returns-clause-texts : goal.returns-clause-texts
 returns-clause-texts c = ap texts_of c.in_ok-number.ensures.keys ∙ text-added c.in_ok-from_slice.field-0 c.args.text.now c.args.palette.now.keys c.in_ok-from_slice.ensures.items
 
 pub returns-in-Some-clause-known : goal.returns-in-Some-clause-known
-returns-in-Some-clause-known c =
-    (returns-in-Some-clause-number c,
-    sym (has-texts c.args.text.now c.args.palette.now.keys) ∙ found-there (is_text c.args.text.now) c.args.palette.now.keys c.in-Some.number c.in-Some.ensures.index)
+returns-in-Some-clause-known c = (
+  returns-in-Some-clause-number c,
+  sym (has-texts c.args.text.now c.args.palette.now.keys) ∙ found-there (is_text c.args.text.now) c.args.palette.now.keys c.in-Some.number c.in-Some.ensures.index,
+)
 
 pub returns-clause-known : goal.returns-clause-known
 returns-clause-known c =
     let text : List ℕ = c.args.text.now in
-    let old : List (List ℕ) = texts_of c.args.palette.now.keys in
-    (returns-clause-number c ∙ sym (number-with_text text old) ∙ ap (λ (texts : List (List ℕ)). number_in texts text) (sym (returns-clause-texts c)),
-    ap (λ (texts : List (List ℕ)). list_any (bytes_eq text) texts) (returns-clause-texts c) ∙ has-with_text text old)
+    let old : List (List ℕ) = texts_of c.args.palette.now.keys in (
+      returns-clause-number c ∙ sym (number-with_text text old) ∙ ap (λ (texts : List (List ℕ)). number_in texts text) (sym (returns-clause-texts c)),
+      ap (λ (texts : List (List ℕ)). list_any (bytes_eq text) texts) (returns-clause-texts c) ∙ has-with_text text old,
+    )
