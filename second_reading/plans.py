@@ -18,7 +18,7 @@ class Planner(Maker):
     """Makes a build and a script of a seed: from one to three plans, each over the ones before."""
     def __init__(self, seed):
         super().__init__(seed)
-        self.size = (self.random.randint(6, 13), self.random.randint(1, 4), self.random.randint(6, 13))
+        self.size = (self.random.randint(7, 13), self.random.randint(1, 4), self.random.randint(7, 13))
         self.filled = self.pick(0, 0, 0.05)
         self.waiting = self.pick(0, 0.05, 0.5)
         # how often a part is otherwise than those that it is like
@@ -34,7 +34,7 @@ class Planner(Maker):
                     for _ in range(width)] for _ in range(length)] for _ in range(height)]
         plans = (self.plan_tree, self.plan_rows, self.plan_constants, self.plan_wires,
                  self.plan_containers)
-        for plan in self.random.choices(plans, (4, 4, 4, 3, 2), k=self.random.randint(1, 3)):
+        for plan in self.random.choices(plans, (4, 4, 4, 3, 2), k=self.pick(1, 1, 2, 3)):
             way = self.pick(*LEVEL)
             place = tuple(self.random.randrange(most) for most in self.size)
             plan(layers, self.drawn_back(place, way), way)
@@ -42,7 +42,7 @@ class Planner(Maker):
                         for x, block in enumerate(row) for line in self.lines((x, y, z), block)]
 
     def drawn_back(self, place, way):
-        """The place, or one nearer to the edge that a plan comes from, so that it has room."""
+        """A place near the edge that a plan comes from, so that it has room."""
         x, y, z = place
         width, _, length = self.size
         near = self.random.randrange(2)
@@ -83,12 +83,12 @@ class Planner(Maker):
     def plan_tree(self, layers, place, way):
         """A lever, and wires from which repeaters go to three sides or two, each to such a wire or to
         an end. Those of one height are alike."""
-        looks = [self.random.randint(1, 3) for _ in range(self.random.randint(1, 3))]
+        delays = [self.random.randint(1, 3) for _ in range(self.random.randint(1, 3))]
         self.put(layers, place, f"lever[face=floor,powered={self.flag()}]")
-        self.branch(layers, step(place, way), way, looks, self.flag())
+        self.branch(layers, step(place, way), way, delays, self.flag())
 
     def branch(self, layers, place, way, delays, is_powered):
-        for _ in range(self.random.randint(0, 1) if self.is_strange() else 0):
+        if self.is_strange():
             self.put(layers, place, "redstone_wire")
             place = step(place, way)
         self.put(layers, place, "redstone_wire")
@@ -125,23 +125,33 @@ class Planner(Maker):
         for far in range(count):
             self.put(layers, on(place, way, far), "redstone_wire")
 
-    def plan_constants(self, layers, place, way):
+    def plan_constants(self, layers, place, turn):
         """Comparators behind what is clicked, each with a constant at its side. Its wires lead to a
         diode that a constant powers too, and that is turned to the side of the next one."""
-        turn = self.pick(*CROSSING[way])
-        self.put_constant(layers, step(place, OPPOSITE[turn]), OPPOSITE[turn])
-        for _ in range(self.random.randint(1, 5)):
-            mode = self.pick("subtract", "subtract", "compare")
+        way, place = self.pick(*CROSSING[turn]), self.middle(place, turn)
+        self.put_constant(layers, place, OPPOSITE[turn])
+        place = step(place, turn)
+        for _ in range(self.random.randint(2, 6)):
+            mode = "compare" if self.is_strange() else "subtract"
             self.put(layers, place, f"comparator[facing={OPPOSITE[way]},mode={mode}]")
+            self.outputs[place] = 0
             self.put(layers, step(place, OPPOSITE[way]), self.giver())
-            wires = self.random.choice((1, 1, 1, 2, 3))
+            wires = self.pick(1, 1, 1, 2)
             self.put_line(layers, step(place, way), way, wires)
             last = on(place, way, wires)
-            if self.random.random() < 0.8:
+            if not self.is_strange():
                 self.put_constant(layers, step(last, way), way)
             self.put_diode(layers, step(last, turn), OPPOSITE[turn], 15)
-            place, way = on(last, turn, 2), self.pick(way, OPPOSITE[way])
+            place, way = on(last, turn, 2), self.pick(OPPOSITE[way], OPPOSITE[way], way)
+            if not self.put(layers, step(place, turn), "air"):
+                break
         self.put(layers, place, self.end())
+
+    def middle(self, place, way):
+        """The place in the middle between the sides of a plan."""
+        x, y, z = place
+        width, _, length = self.size
+        return (x, y, length // 2) if way in ("east", "west") else (width // 2, y, z)
 
     def put_diode(self, layers, place, facing, output):
         """A diode that gives this much, or a repeater that is on."""
@@ -153,7 +163,7 @@ class Planner(Maker):
 
     def put_constant(self, layers, place, side):
         """A constant, or a diode with one behind it on that side."""
-        if self.random.random() < 0.4:
+        if self.random.random() < 0.7:
             self.put(layers, place, "redstone_block")
             return
         level, bites = self.random.randint(0, 8), self.random.randint(0, 6)
@@ -193,7 +203,8 @@ class Planner(Maker):
             if self.random.random() < 0.3:
                 self.put(layers, at, self.pick("stone", "redstone_lamp", "glass"))
                 at = step(at, way)
-            self.put(layers, at, f"comparator[facing={OPPOSITE[way]},mode={self.pick('compare', 'subtract')}]")
+            mode = self.pick("compare", "subtract")
+            self.put(layers, at, f"comparator[facing={OPPOSITE[way]},mode={mode}]")
             if self.random.random() < 0.5:
                 self.draw_side(layers, at, side)
             at = self.put_look(layers, step(at, way), way, look)
