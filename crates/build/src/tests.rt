@@ -1,5 +1,6 @@
 use super::*;
 use block_table::{Block, Side, parse_state};
+use packed_block::PackedBlock;
 use rp_text::NoMemory;
 use std::alloc::Global;
 use std::process::Abort;
@@ -57,9 +58,15 @@ fn boxes(rt: HostRuntime) -> Result<(), Fail> {
 
 #[test]
 fn blocks_of_a_list(rt: HostRuntime) -> Result<(), Fail> {
-    let blocks = vec![in rt.alloc(); Block::Air, Block::RedstoneBlock]?;
+    let blocks = vec![
+        in rt.alloc();
+        PackedBlock::new(Block::Air),
+        PackedBlock::new(Block::RedstoneBlock)
+    ]?;
     let build = Build::of_blocks(1, 1, 2, 5, blocks);
     assert_eq!(rt; build.at(pos(0, 0, 1)), Block::RedstoneBlock);
+    assert_eq!(rt; build.cells(), 2);
+    assert_eq!(rt; (build.block_in(0), build.block_in(1)), (Block::Air, Block::RedstoneBlock));
     assert_eq!(rt; (build.cells(), build.data_version()), (2, 5));
     assert_eq!(rt; build.pending().len(), 0);
     Ok(())
