@@ -14,7 +14,7 @@ use circuit::Pos;
 use number_rows::Rows;
 use rp_text::NoMemory;
 use std::alloc::Global;
-use wire_shape::{feeders_of, wire_at};
+use wire_shape::{feeders_of, is_wire};
 use wiring::push_sources;
 
 /// The wires of a build. They are numbered in the order of places.
@@ -46,7 +46,7 @@ fn push_wire(cells: &mut Vec<u32>, build: &Build, cell: usize) -> Result<(), NoM
     ensures { OnOk result (cells.new.items ≡ cells.old.items ++ filter (λ i. wire_at build.now (place_of build.now i)) (cell ∷ [])) }
 {
     let _cells = build.cells();
-    if wire_at(build, build.place(cell)) {
+    if is_wire(build.block_in(cell)) {
         cells.push(cell as u32)?;
     }
     Ok(())
