@@ -299,7 +299,7 @@ impl Build {
     }
 
     /// The block at a place: air outside of the box.
-    #[inline]
+    #[inline(always)]
     pub fn at(&self, pos: Pos) -> Block
         ensures value { result ≡ block_at self.now pos }
         ensures listed { IsTrue (is_listed result) }
