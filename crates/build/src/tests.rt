@@ -58,15 +58,17 @@ fn boxes(rt: HostRuntime) -> Result<(), Fail> {
 
 #[test]
 fn blocks_of_a_list(rt: HostRuntime) -> Result<(), Fail> {
-    let blocks = vec![
-        in rt.alloc();
+    let blocks = vec![in rt.alloc();
         PackedBlock::new(Block::Air),
-        PackedBlock::new(Block::RedstoneBlock)
+        PackedBlock::new(Block::RedstoneBlock),
     ]?;
     let build = Build::of_blocks(1, 1, 2, 5, blocks);
     assert_eq!(rt; build.at(pos(0, 0, 1)), Block::RedstoneBlock);
     assert_eq!(rt; build.cells(), 2);
-    assert_eq!(rt; (build.block_in(0), build.block_in(1)), (Block::Air, Block::RedstoneBlock));
+    assert_eq!(rt;
+        (build.block_in(0), build.block_in(1)),
+        (Block::Air, Block::RedstoneBlock)
+    );
     assert_eq!(rt; (build.cells(), build.data_version()), (2, 5));
     assert_eq!(rt; build.pending().len(), 0);
     Ok(())
