@@ -15,6 +15,16 @@ use crate::trees::{Field, Root, Tree};
 use rp_text::Raw;
 use std::alloc::{AllocError, Global};
 
+// Makes room for the first item, and for that alone: most compounds of a hostile file hold one field.
+fn make_room<T: Drop>(items: &mut Vec<T>) -> Result<(), AllocError>
+    ensures { items.new.items ≡ items.old.items }
+{
+    if items.is_empty() {
+        items.reserve_exact(1)?;
+    }
+    Ok(())
+}
+
 /// `holder` with one more tree.
 fn attach(holder: Open, name: Raw, tree: Tree) -> Result<Open, AllocError>
     requires { HasRoom (plain_open holder) }
@@ -26,6 +36,7 @@ fn attach(holder: Open, name: Raw, tree: Tree) -> Result<Open, AllocError>
             name: own,
             mut fields,
         } => {
+            make_room(&mut fields)?;
             fields.push(Field { name, tree })?;
             Ok(Open::Compound { name: own, fields })
         }
@@ -35,6 +46,7 @@ fn attach(holder: Open, name: Raw, tree: Tree) -> Result<Open, AllocError>
             left,
             mut items,
         } => {
+            make_room(&mut items)?;
             items.push(tree)?;
             Ok(Open::List {
                 name: own,
