@@ -125,12 +125,14 @@ pub(crate) fn packed(block: Block) -> u16
     }
 }
 
+#[inline]
 fn flag_in(code: u16) -> bool
     ensures { result ≡ flag_in code }
 {
     code % 2 == 1
 }
 
+#[inline]
 fn facing_in(code: u16) -> Side
     ensures { result ≡ facing_in code }
 {
@@ -142,6 +144,7 @@ fn facing_in(code: u16) -> Side
     }
 }
 
+#[inline]
 fn face_in(code: u16) -> Face
     ensures { result ≡ face_in code }
 {
@@ -152,6 +155,7 @@ fn face_in(code: u16) -> Face
     }
 }
 
+#[inline]
 fn wire_side_at(number: u16) -> WireSide
     ensures { result ≡ wire_side_at number }
 {
@@ -162,6 +166,7 @@ fn wire_side_at(number: u16) -> WireSide
     }
 }
 
+#[inline]
 fn slab_half_at(number: u16) -> SlabHalf
     ensures { result ≡ slab_half_at number }
 {
@@ -172,6 +177,7 @@ fn slab_half_at(number: u16) -> SlabHalf
     }
 }
 
+#[inline(always)]
 fn wire_in(code: u16) -> Block
     ensures { result ≡ wire_in code }
 {

@@ -18,6 +18,7 @@ pub fn same_side(a: Side, b: Side) -> bool
 }
 
 /// Whether a block is a wire.
+#[inline]
 pub fn is_wire(block: Block) -> bool
     ensures { result ≡ is_wire block }
 {
@@ -25,6 +26,7 @@ pub fn is_wire(block: Block) -> bool
 }
 
 /// Whether a wire stands at a place.
+#[inline]
 pub fn wire_at(build: &Build, pos: Pos) -> bool
     ensures { result ≡ wire_at build.now pos }
 {
