@@ -6,6 +6,7 @@ ghost use Rattle.std.specs.Prelude.{OnOk};
 ghost use Rattle.graph.specs.Sound.{IsSound};
 ghost use Rattle.graph.specs.Steps.{Clamps, Dedups};
 ghost use Rattle.pass_frame.specs.Frame.{Ran, IsDone};
+ghost use Rattle.pass_frame.specs.Rounds.{Exhausts};
 
 use graph::Graph;
 use pass_frame::Pass;
@@ -28,10 +29,13 @@ pub struct Clamp;
 impl Pass for Clamp {
     ghost step = { Clamps };
 
+    ghost turn = { Exhausts Clamps };
+
     fn run(&mut self, graph: &mut Graph) -> Result<bool, NoMemory>
         requires { IsSound graph.old.nodes }
         ensures ran { Ran Clamps graph.old.nodes result graph.new.nodes }
         ensures done { OnOk result (IsDone Clamps graph.new.nodes) }
+        ensures turn { OnOk result (Exhausts Clamps graph.old.nodes graph.new.nodes) }
     {
         let mut took = false;
         let keys = graph.keys()?;
@@ -60,10 +64,13 @@ pub struct Dedup;
 impl Pass for Dedup {
     ghost step = { Dedups };
 
+    ghost turn = { Exhausts Dedups };
+
     fn run(&mut self, graph: &mut Graph) -> Result<bool, NoMemory>
         requires { IsSound graph.old.nodes }
         ensures ran { Ran Dedups graph.old.nodes result graph.new.nodes }
         ensures done { OnOk result (IsDone Dedups graph.new.nodes) }
+        ensures turn { OnOk result (Exhausts Dedups graph.old.nodes graph.new.nodes) }
     {
         let mut took = false;
         let keys = graph.keys()?;

@@ -5,6 +5,7 @@ ghost use Rattle.std.specs.Prelude.{◌≡◌, OnOk};
 ghost use Rattle.graph.specs.Sound.{IsSound};
 ghost use Rattle.graph.specs.Steps.{Folds};
 ghost use Rattle.pass_frame.specs.Frame.{Ran, IsDone};
+ghost use Rattle.pass_frame.specs.Rounds.{Exhausts};
 
 use graph::Graph;
 use pass_frame::Pass;
@@ -30,10 +31,13 @@ pub struct Fold;
 impl Pass for Fold {
     ghost step = { Folds };
 
+    ghost turn = { Exhausts Folds };
+
     fn run(&mut self, graph: &mut Graph) -> Result<bool, NoMemory>
         requires { IsSound graph.old.nodes }
         ensures ran { Ran Folds graph.old.nodes result graph.new.nodes }
         ensures done { OnOk result (IsDone Folds graph.new.nodes) }
+        ensures turn { OnOk result (Exhausts Folds graph.old.nodes graph.new.nodes) }
     {
         let keys = graph.keys()?;
         let mut waits = Waits::new(*keys.allocator(), &keys)?;

@@ -1,5 +1,6 @@
 -- Runs of passes, one after another.
 use Rattle.std.proofs.Common.{◌≡◌, ◌<◌, ◌≤◌, Bool, true, false, ◌||◌, Ok, Err, Result, sym, ◌∙◌, subst, arith, ◌⊎◌, inl, inr}
+use Rattle.std.specs.Prelude.{OnOk}
 use Rattle.std.specs.Result.{IsErr}
 use Rattle.rp_text.specs.declared.NoMemory.{NoMemory}
 use Rattle.graph.specs.Graph.{Nodes}
@@ -8,6 +9,7 @@ use Rattle.graph.specs.Refines.{Refines}
 use Rattle.graph.specs.Measure.{measure}
 use Rattle.graph.proofs.RefineSteps.{refines_refl, refines_then}
 use Rattle.pass_frame.specs.Frame.{Reaches, Stays, Goes, Ran, IsDone}
+use Rattle.pass_frame.specs.Rounds.{Exhausts}
 
 abbrev pub Either : (P Q : Nodes → Nodes → Type 0) → Nodes → Nodes → Type 0
 Either P Q old new = P old new ⊎ Q old new
@@ -29,11 +31,11 @@ reaches_in_second : (P Q : Nodes → Nodes → Type 0) {a b : Nodes} → Reaches
 reaches_in_second P Q Stays = Stays
 reaches_in_second P Q (Goes h r) = Goes (inr h) (reaches_in_second P Q r)
 
-reaches_append : (P : Nodes → Nodes → Type 0) {a b c : Nodes} → Reaches P a b → Reaches P b c → Reaches P a c
+pub reaches_append : (P : Nodes → Nodes → Type 0) {a b c : Nodes} → Reaches P a b → Reaches P b c → Reaches P a c
 reaches_append P Stays s = s
 reaches_append P (Goes h r) s = Goes h (reaches_append P r s)
 
-reaches_sound : (P : Nodes → Nodes → Type 0) → KeepsSound P → {a b : Nodes} → IsSound a → Reaches P a b → IsSound b
+pub reaches_sound : (P : Nodes → Nodes → Type 0) → KeepsSound P → {a b : Nodes} → IsSound a → Reaches P a b → IsSound b
 reaches_sound P k s Stays = s
 reaches_sound P k {a} s (Goes {mid = m} h r) = reaches_sound P k (k a m s h) r
 
@@ -109,3 +111,8 @@ pub when_ran : (on : Bool) (P : Nodes → Nodes → Type 0) (old new : Nodes) (r
 when_ran on P old new (Ok false) e h = (λ g step. h.0 g step.1, h.1)
 when_ran on P old new (Ok true) e h = (h.0, (e, h.1), reaches_when on P e h.2)
 when_ran on P old new (Err no_memory) e h = reaches_when on P e h
+
+-- a run that left no step
+pub ran_exhausts : (P : Nodes → Nodes → Type 0) (old new : Nodes) (r : Result Bool NoMemory) → Ran P old r new → OnOk r (IsDone P new) → OnOk r (Exhausts P old new)
+ran_exhausts P old new (Ok took) h done = record { reaches = ran_reaches P old new (Ok took) h; rests = done }
+ran_exhausts P old new (Err e) h done = tt

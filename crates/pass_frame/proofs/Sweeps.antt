@@ -10,11 +10,7 @@ use Rattle.graph.specs.LinkAt.{SameOthers}
 use Rattle.graph.proofs.ListedSteps.{all_keys_closed}
 use Rattle.pass_frame.specs.Frame.{Reaches, Stays, Goes, Ran, IsDone}
 use Rattle.pass_frame.specs.Took.{Took}
-use Rattle.pass_frame.proofs.FrameSteps.{KeepsSound}
-
-reaches_then : (P : Nodes → Nodes → Type 0) {a b c : Nodes} → Reaches P a b → Reaches P b c → Reaches P a c
-reaches_then P Stays s = s
-reaches_then P (Goes h r) s = Goes h (reaches_then P r s)
+use Rattle.pass_frame.proofs.FrameSteps.{KeepsSound, reaches_append, reaches_sound}
 
 pub took_reaches : (P : Nodes → Nodes → Type 0) (old new : Nodes) (took : Bool) → Took P old took new → Reaches P old new
 took_reaches P old new false t = subst (Reaches P old) (sym t) Stays
@@ -23,22 +19,18 @@ took_reaches P old new true t = Goes t.1 t.2
 -- one step more
 pub took_step : (P : Nodes → Nodes → Type 0) (old mid new : Nodes) (took : Bool) → Took P old took mid → P mid new → Took P old true new
 took_step P old mid new false t h = (new, subst (λ m. P m new) t h, Stays)
-took_step P old mid new true t h = (t.0, t.1, reaches_then P t.2 (Goes h Stays))
+took_step P old mid new true t h = (t.0, t.1, reaches_append P t.2 (Goes h Stays))
 
 -- one part after another
 pub took_then : (P : Nodes → Nodes → Type 0) (old mid new : Nodes) (took more : Bool) → Took P old took mid → Took P mid more new → Took P old (took || more) new
 took_then P old mid new false false t u = u ∙ t
 took_then P old mid new false true t u = (u.0, subst (λ m. P m u.0) t u.1, u.2)
-took_then P old mid new true more t u = (t.0, t.1, reaches_then P t.2 (took_reaches P mid new more u))
+took_then P old mid new true more t u = (t.0, t.1, reaches_append P t.2 (took_reaches P mid new more u))
 
 -- a run at whose end no step is left
 pub took_ran : (P : Nodes → Nodes → Type 0) (old new : Nodes) (took : Bool) → Took P old took new → IsDone P new → Ran P old (Ok took) new
 took_ran P old new false t done = (subst (IsDone P) t done, t)
 took_ran P old new true t done = t
-
-reaches_sound : (P : Nodes → Nodes → Type 0) → KeepsSound P → {a b : Nodes} → IsSound a → Reaches P a b → IsSound b
-reaches_sound P k s Stays = s
-reaches_sound P k {a} s (Goes {mid = m} h r) = reaches_sound P k (k a m s h) r
 
 pub took_sound : (P : Nodes → Nodes → Type 0) → KeepsSound P → (old new : Nodes) (took : Bool) → IsSound old → Took P old took new → IsSound new
 took_sound P k old new took s t = reaches_sound P k s (took_reaches P old new took t)

@@ -7,6 +7,7 @@ ghost use Rattle.graph.specs.Sound.{IsSound};
 ghost use Rattle.graph.specs.Refines.{Refines};
 ghost use Rattle.graph.specs.Measure.{measure};
 ghost use Rattle.pass_frame.specs.Frame.{Ran, IsDone};
+ghost use Rattle.pass_frame.specs.Rounds.{InTurn, TurnWhen, Rounds};
 
 use graph::Graph;
 use rp_text::NoMemory;
@@ -19,16 +20,21 @@ mod tests;
 ///
 /// An `impl` says by `step` what its steps are, and proves of each step from a sound graph that
 /// it leaves a sound graph, that all that the new graph shows the old one shows, and that it
-/// lowers the measure: nodes, plus links, plus nodes that aren't Constant.
+/// lowers the measure: nodes, plus links, plus nodes that aren't Constant. By `turn` it says which
+/// steps a whole run takes.
 pub trait Pass {
     // a step of the pass leads from the old nodes to the new ones
     ghost step: { Nodes → Nodes → Type 0 };
+
+    // a whole run leads from the old nodes to the new ones
+    ghost turn: { Nodes → Nodes → Type 0 };
 
     /// Takes steps, and says whether it took any: `Ok(false)` comes exactly where no step was
     /// enabled, and the graph is unchanged then. After `NoMemory` it was changed by whole steps.
     fn run(&mut self, graph: &mut Graph) -> Result<bool, NoMemory>
         requires { IsSound graph.old.nodes }
-        ensures { Ran step graph.old.nodes result graph.new.nodes };
+        ensures ran { Ran step graph.old.nodes result graph.new.nodes }
+        ensures turn { OnOk result (turn graph.old.nodes graph.new.nodes) };
 
     ghost keeps_sound: { (old new : Nodes) → IsSound old → step old new → IsSound new };
 
@@ -47,6 +53,8 @@ pub struct Then<P, Q> {
 
 impl<P: Pass, Q: Pass> Pass for Then<P, Q> {
     ghost step = { λ old new. P.step old new ⊎ Q.step old new };
+
+    ghost turn = { InTurn P.turn Q.turn };
 
     fn run(&mut self, graph: &mut Graph) -> Result<bool, NoMemory> {
         let first = self.first.run(graph)?;
@@ -72,9 +80,12 @@ pub struct Stable<P> {
 impl<P: Pass> Pass for Stable<P> {
     ghost step = { P.step };
 
+    ghost turn = { Rounds P.turn };
+
     fn run(&mut self, graph: &mut Graph) -> Result<bool, NoMemory>
         requires { IsSound graph.old.nodes }
         ensures ran { Ran P.step graph.old.nodes result graph.new.nodes }
+        ensures turn { OnOk result (Rounds P.turn graph.old.nodes graph.new.nodes) }
         ensures done { OnOk result (IsDone P.step graph.new.nodes) }
     {
         let mut took = false;
@@ -99,6 +110,8 @@ pub struct When<P, const ON: bool> {
 
 impl<P: Pass, const ON: bool> Pass for When<P, ON> {
     ghost step = { λ old new. (ON ≡ true) × P.step old new };
+
+    ghost turn = { TurnWhen ON P.turn };
 
     fn run(&mut self, graph: &mut Graph) -> Result<bool, NoMemory> {
         if ON { self.pass.run(graph) } else { Ok(false) }

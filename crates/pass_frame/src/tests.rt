@@ -12,6 +12,8 @@ struct Idle {
 impl Pass for Idle {
     ghost step = { λ old new. ⊥ };
 
+    ghost turn = { λ old new. new ≡ old };
+
     fn run(&mut self, _graph: &mut Graph) -> Result<bool, NoMemory> {
         self.runs = self.runs.saturating_add(1);
         Ok(false)
@@ -30,6 +32,8 @@ struct Starved;
 
 impl Pass for Starved {
     ghost step = { λ old new. ⊥ };
+
+    ghost turn = { λ old new. new ≡ old };
 
     fn run(&mut self, _graph: &mut Graph) -> Result<bool, NoMemory> {
         Err(NoMemory)

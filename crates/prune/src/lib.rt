@@ -5,6 +5,7 @@ ghost use Rattle.std.specs.Prelude.{◌≡◌, OnOk, IfOk, filter};
 ghost use Rattle.graph.specs.Sound.{IsSound};
 ghost use Rattle.graph.specs.Steps.{Prunes};
 ghost use Rattle.pass_frame.specs.Frame.{Ran, IsDone};
+ghost use Rattle.pass_frame.specs.Rounds.{Exhausts};
 ghost use Rattle.prune.specs.Unseen.{AreUnseen};
 ghost use Rattle.prune.specs.Found.{is_unmarked};
 
@@ -28,10 +29,13 @@ pub struct Prune;
 impl Pass for Prune {
     ghost step = { Prunes };
 
+    ghost turn = { Exhausts Prunes };
+
     fn run(&mut self, graph: &mut Graph) -> Result<bool, NoMemory>
         requires { IsSound graph.old.nodes }
         ensures ran { Ran Prunes graph.old.nodes result graph.new.nodes }
         ensures done { OnOk result (IsDone Prunes graph.new.nodes) }
+        ensures turn { OnOk result (Exhausts Prunes graph.old.nodes graph.new.nodes) }
     {
         let unseen = unseen_nodes(graph)?;
         graph.drop_set(&unseen);

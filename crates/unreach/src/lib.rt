@@ -7,6 +7,7 @@ ghost use Rattle.graph.specs.LinkAt.{EachLink, SameOthers};
 ghost use Rattle.graph.specs.Sound.{IsSound};
 ghost use Rattle.graph.specs.Steps.{Unreaches};
 ghost use Rattle.pass_frame.specs.Frame.{Ran, IsDone};
+ghost use Rattle.pass_frame.specs.Rounds.{Exhausts};
 ghost use Rattle.pass_frame.specs.Took.{Took};
 ghost use Rattle.unreach.specs.Reached.{HasBound, IsReached, SameBounds};
 
@@ -31,10 +32,13 @@ pub struct Unreach;
 impl Pass for Unreach {
     ghost step = { Unreaches };
 
+    ghost turn = { Exhausts Unreaches };
+
     fn run(&mut self, graph: &mut Graph) -> Result<bool, NoMemory>
         requires { IsSound graph.old.nodes }
         ensures ran { Ran Unreaches graph.old.nodes result graph.new.nodes }
         ensures done { OnOk result (IsDone Unreaches graph.new.nodes) }
+        ensures turn { OnOk result (Exhausts Unreaches graph.old.nodes graph.new.nodes) }
     {
         let mut took = false;
         let keys = graph.keys()?;

@@ -1,9 +1,9 @@
 -- One node after another is clamped, and in the end all are.
-use Rattle.std.proofs.Common.{◌≡◌, get_or, ◌∙◌}
+use Rattle.std.proofs.Common.{◌≡◌, get_or, ◌∙◌, Ok}
 use Rattle.graph.specs.Graph.{Lives}
 use Rattle.graph.specs.Steps.{Clamps}
 use Rattle.pass_frame.specs.Frame.{Stays}
-use Rattle.pass_frame.proofs.FrameSteps.{ran_err}
+use Rattle.pass_frame.proofs.FrameSteps.{ran_err, ran_exhausts}
 use Rattle.pass_frame.proofs.Sweeps.{took_then, took_ran, done_next, lived_next, key_in_turn, sweep_all}
 use Rattle.clamp_dedup.specs.Clamped.{IsClamped}
 use Rattle.clamp_dedup.proofs.ClampSteps.{clamps_done}
@@ -31,3 +31,6 @@ pub returns-clause-ran : goal.returns-clause-ran
 returns-clause-ran c = took_ran Clamps c.args.graph.now.nodes c.loop-key.graph.nodes c.loop-key.took c.loop-key.invariant.took (clamps_done c.loop-key.graph.nodes
     (sweep_all IsClamped c.args.graph.now.nodes c.loop-key.graph.nodes c.deref-key-items.result.now c.loop-key.key-index (c.deref-key-items.ensures.value ∙ c.in_ok-keys.ensures)
     c.loop-key.invariant.clamped c.loop-key-test.false c.loop-key.invariant.lived))
+
+pub returns-clause-turn : goal.returns-clause-turn
+returns-clause-turn c = ran_exhausts Clamps c.args.graph.now.nodes c.loop-key.graph.nodes (Ok c.loop-key.took) (returns-clause-ran c) (returns-clause-done c)

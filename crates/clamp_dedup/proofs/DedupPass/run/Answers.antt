@@ -1,10 +1,10 @@
 -- One node after another is left with single links, and in the end all are.
-use Rattle.std.proofs.Common.{◌≡◌, ◌+◌, ◌*◌, ◌<◌, get_or, refl, subst, sym, ◌∙◌}
+use Rattle.std.proofs.Common.{◌≡◌, ◌+◌, ◌*◌, ◌<◌, get_or, refl, subst, sym, ◌∙◌, Ok}
 use Rattle.graph.specs.Graph.{Lives}
 use Rattle.graph.specs.Sound.{IsSound}
 use Rattle.graph.specs.Steps.{Dedups}
 use Rattle.pass_frame.specs.Frame.{Stays}
-use Rattle.pass_frame.proofs.FrameSteps.{ran_err}
+use Rattle.pass_frame.proofs.FrameSteps.{ran_err, ran_exhausts}
 use Rattle.pass_frame.proofs.Sweeps.{took_then, took_ran, took_sound, done_none, done_next, lived_next, key_in_turn, sweep_all}
 use Rattle.clamp_dedup.specs.Single.{IsSingle}
 use Rattle.clamp_dedup.specs.DedupLaws.{dedup_keeps_sound}
@@ -53,3 +53,6 @@ pub returns-clause-ran : goal.returns-clause-ran
 returns-clause-ran c = took_ran Dedups c.args.graph.now.nodes c.loop-key.graph.nodes c.loop-key.took c.loop-key.invariant.took (dedups_done c.loop-key.graph.nodes
     (sweep_all IsSingle c.args.graph.now.nodes c.loop-key.graph.nodes c.deref-key-items.result.now c.loop-key.key-index (c.deref-key-items.ensures.value ∙ c.in_ok-keys.ensures)
     c.loop-key.invariant.single c.loop-key-test.false c.loop-key.invariant.lived))
+
+pub returns-clause-turn : goal.returns-clause-turn
+returns-clause-turn c = ran_exhausts Dedups c.args.graph.now.nodes c.loop-key.graph.nodes (Ok c.loop-key.took) (returns-clause-ran c) (returns-clause-done c)

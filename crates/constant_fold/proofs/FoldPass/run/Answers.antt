@@ -1,5 +1,5 @@
 -- Each fold is a step, and in the end no node is left to be looked at.
-use Rattle.std.proofs.Common.{◌<◌, ℕ, true, List, [], refl, ◌∙◌}
+use Rattle.std.proofs.Common.{◌<◌, ℕ, true, List, [], refl, ◌∙◌, Ok}
 use Rattle.std.specs.Prelude.{Vec}
 use Rattle.std.specs.declared.alloc.Global.{Global}
 use Rattle.graph.specs.Graph.{Nodes}
@@ -7,7 +7,7 @@ use Rattle.graph.specs.Measure.{measure}
 use Rattle.graph.specs.Sound.{IsSound}
 use Rattle.graph.specs.Steps.{Folds}
 use Rattle.pass_frame.specs.Frame.{Stays}
-use Rattle.pass_frame.proofs.FrameSteps.{ran_err}
+use Rattle.pass_frame.proofs.FrameSteps.{ran_err, ran_exhausts}
 use Rattle.pass_frame.proofs.Sweeps.{took_step, took_ran, took_sound, took_reaches}
 use Rattle.constant_fold.specs.FoldLaws.{fold_keeps_sound, fold_falls}
 use Rattle.constant_fold.specs.declared.waits.Wait.{Wait}
@@ -79,3 +79,6 @@ pub returns-clause-ran : goal.returns-clause-ran
 returns-clause-ran c =
     let tended : AllTended c.loop-waits.graph.nodes [] c.next_ready.new.waits.lists.items = rw c.in_default.is at c.in_ok-ready.ensures in
     took_ran Folds c.args.graph.now.nodes c.loop-waits.graph.nodes c.loop-waits.took c.loop-waits.invariant.took (folds_done c.loop-waits.graph.nodes c.next_ready.new.waits.lists.items tended)
+
+pub returns-clause-turn : goal.returns-clause-turn
+returns-clause-turn c = ran_exhausts Folds c.args.graph.now.nodes c.loop-waits.graph.nodes (Ok c.loop-waits.took) (returns-clause-ran c) (returns-clause-done c)

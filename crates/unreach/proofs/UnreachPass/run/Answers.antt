@@ -1,10 +1,10 @@
 -- One node after another is reached by all its links, and in the end all are.
-use Rattle.std.proofs.Common.{◌≡◌, get_or, refl, ◌∙◌}
+use Rattle.std.proofs.Common.{◌≡◌, get_or, refl, ◌∙◌, Ok}
 use Rattle.graph.specs.Graph.{Lives}
 use Rattle.graph.specs.Sound.{IsSound}
 use Rattle.graph.specs.Steps.{Unreaches}
 use Rattle.pass_frame.specs.Frame.{Stays}
-use Rattle.pass_frame.proofs.FrameSteps.{ran_err}
+use Rattle.pass_frame.proofs.FrameSteps.{ran_err, ran_exhausts}
 use Rattle.pass_frame.proofs.Sweeps.{took_then, took_ran, took_sound, done_none, done_next, lived_next, key_in_turn, sweep_all}
 use Rattle.unreach.specs.Reached.{IsReached}
 use Rattle.unreach.specs.UnreachLaws.{unreach_keeps_sound}
@@ -56,3 +56,6 @@ returns-clause-ran c =
     (unreaches_done c.loop-key.graph.nodes c.in_ok-bounds.bounds.list.items sound (λ k h. c.loop-key.invariant.bounds k (c.loop-key.invariant.lived k h))
     (sweep_all (IsReached c.in_ok-bounds.bounds.list.items) c.args.graph.now.nodes c.loop-key.graph.nodes c.deref-key-items.result.now c.loop-key.key-index (c.deref-key-items.ensures.value ∙ c.in_ok-keys.ensures)
     c.loop-key.invariant.reached c.loop-key-test.false c.loop-key.invariant.lived))
+
+pub returns-clause-turn : goal.returns-clause-turn
+returns-clause-turn c = ran_exhausts Unreaches c.args.graph.now.nodes c.loop-key.graph.nodes (Ok c.loop-key.took) (returns-clause-ran c) (returns-clause-done c)
