@@ -1,6 +1,6 @@
 -- Lists of targets that grow.
 use Rattle.std.proofs.Common.{◌≡◌, ◌≢◌, ℕ, zero, suc, ◌+◌, ◌<◌, ◌≤◌, List, [], ◌∷◌, ◌++◌, Some, refl, sym, ap, subst, arith, set, length, get_or, inl, inr}
-use Rattle.std.specs.Prelude.{Vec, Contains, insert, take, drop}
+use Rattle.std.specs.Prelude.{Vec, Contains}
 use Rattle.std.specs.declared.alloc.Global.{Global}
 use Rattle.std.proofs.lemmas.Bool.{cases_eq, cases_lt}
 use Rattle.std.specs.List.Sorted.{IsPermutation}
@@ -77,7 +77,7 @@ among_contains (y ∷ xs) x (suc k) h e = inr (among_contains xs x k (omega arit
 pub among_permuted : (xs ys : List ℕ) → IsPermutation xs ys → (x : ℕ) → Among xs x → Among ys x
 among_permuted xs ys p x a = let c = Contains-permutation xs ys x p (contains_among xs x a) in among_contains ys x c.0 c.1 c.2
 
-item_at : (xs : List ℕ) (k x : ℕ) → k < length xs → x ≡ get_or xs k x → x ≡ get_or xs k 0
+pub item_at : (xs : List ℕ) (k x : ℕ) → k < length xs → x ≡ get_or xs k x → x ≡ get_or xs k 0
 item_at [] k x h e = absurd (omega arith)
 item_at (y ∷ xs) zero x h e = e
 item_at (y ∷ xs) (suc k) x h e = item_at xs k x (omega arith) e
@@ -96,16 +96,3 @@ each_among P xs i h each x a = let r = among_at xs x a in subst P r.2 (each r.0 
 -- a node that stands in the graph is among its keys
 pub key_listed : (g : Nodes) (key : ℕ) (node : Node) → node_at g key ≡ Some node → Among (keys_of g) key
 key_listed g key node there = subst (Among (keys_of g)) (omega arith) (among_keys 0 key g node there)
-
-among_back : (xs ys : List ℕ) (x : ℕ) → Among ys x → Among (xs ++ ys) x
-among_back [] ys x a = a
-among_back (z ∷ xs) ys x a = inr (among_back xs ys x a)
-
--- a list with one more at some place has all that it had, and that one
-pub among_put : (xs : List ℕ) (place y x : ℕ) → Among xs x → Among (insert xs place y) x
-among_put [] place y x a = absurd a
-among_put (z ∷ xs) zero y x a = inr a
-among_put (z ∷ xs) (suc place) y x a = elim a [ inl e ↦ inl e | inr b ↦ inr (among_put xs place y x b) ]
-
-pub among_of_put : (xs : List ℕ) (place y : ℕ) → Among (insert xs place y) y
-among_of_put xs place y = among_back (take place xs) (y ∷ drop place xs) y (inl refl)

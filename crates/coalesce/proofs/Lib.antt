@@ -3,3 +3,4 @@ pub mod LookSteps
 pub mod PairSteps
 pub mod TriedSteps
 pub mod WaitSteps
+pub mod SweepSteps

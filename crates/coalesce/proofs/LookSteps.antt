@@ -1,14 +1,17 @@
--- Nodes that are put among those of their look.
-use Rattle.std.proofs.Common.{◌≡◌, ℕ, Bool, true, [], Option, Some, None, refl, sym, ap, ◌∙◌, subst, inl, inr}
+-- Nodes that are put among those of their look, and those of a look that stand above a node.
+use Rattle.std.proofs.Common.{◌≡◌, ℕ, ◌<◌, Bool, true, List, [], ◌∷◌, length, get_or, Option, Some, None, refl, sym, ap, ◌∙◌, subst, inl, inr, ◌⊎◌}
 use Rattle.std.proofs.Math.Path.{fun_ext}
-use Rattle.std.specs.Prelude.{Vec, unwrap_or}
+use Rattle.std.specs.Prelude.{Vec, unwrap_or, filter, nat_lt}
+use Rattle.std.specs.List.Sorted.{IsPermutation}
 use Rattle.std.specs.declared.alloc.Global.{Global}
 use Rattle.std.specs.HashMap.{HashMap, get_by, Updates, UpdatesBy}
-use Rattle.std.proofs.lemmas.Bool.{cases_Bool}
+use Rattle.std.proofs.lemmas.Bool.{cases_Bool, lt-ltb, ltb-true}
+use Rattle.std.proofs.lemmas.List.Sorted.{IsPermutation-sym}
 use Rattle.circuit.specs.Circuit.{Among}
 use Rattle.coalesce.specs.declared.looks.Look.{Look}
 use Rattle.coalesce.specs.contracts.looks.LookEq.TheImpl.Laws.{laws-law}
 use Rattle.coalesce.specs.FanOuts.{items_of}
+use Rattle.coalesce.proofs.FanSteps.{among_permuted, at_among}
 use Rattle.coalesce.specs.Looks.{same_look, members, KeepsMembers}
 
 -- equal looks find one list
@@ -30,3 +33,29 @@ put_keeps look old mid new before after taken put had more other key a = elim (c
       subst (λ xs. Among xs key) (sym there) (more key (subst (λ xs. Among xs key) (sym (had ∙ here)) a)))
   | inr e ↦ subst (λ list. Among (items_of list) key) (sym (put.2 other e ∙ taken.2 other e)) a
 ]
+
+-- what passes a test
+pub among_filtered : (p : ℕ → Bool) (xs : List ℕ) (x : ℕ) → Among xs x → p x ≡ true → Among (filter p xs) x
+among_filtered p [] x a t = absurd a
+among_filtered p (y ∷ xs) x a t = elim a [
+  | inl e ↦ rw (subst (λ z. p z ≡ true) e t) (inl e)
+  | inr b ↦ elim (cases_Bool (p y)) [ inl h ↦ rw h (inr (among_filtered p xs x b t)) | inr h ↦ rw h (among_filtered p xs x b t) ]
+]
+
+of_filtered : (p : ℕ → Bool) (xs : List ℕ) (x : ℕ) → Among (filter p xs) x → p x ≡ true
+of_filtered p [] x a = absurd a
+of_filtered p (y ∷ xs) x a = elim (cases_Bool (p y)) [
+  | inl t ↦ (let here : (x ≡ y) ⊎ Among (filter p xs) x = rw t at a in elim here [ inl e ↦ ap p e ∙ t | inr b ↦ of_filtered p xs x b ])
+  | inr f ↦ of_filtered p xs x (rw f at a)
+]
+
+-- those above a number, in another order
+pub sorted_all : (least : ℕ) (xs found keys : List ℕ) → found ≡ filter (λ key. nat_lt least key) xs → IsPermutation found keys → (key : ℕ) → least < key → Among xs key → Among keys key
+sorted_all least xs found keys e same key less a =
+    among_permuted found keys same key (subst (λ ys. Among ys key) (sym e) (among_filtered (λ k. nat_lt least k) xs key a (lt-ltb least key less)))
+
+pub sorted_above : (least : ℕ) (xs found keys : List ℕ) → found ≡ filter (λ key. nat_lt least key) xs → IsPermutation found keys → (index : ℕ) → index < length keys → least < get_or keys index 0
+sorted_above least xs found keys e same index inside =
+    let a : Among (filter (λ k. nat_lt least k) xs) (get_or keys index 0) =
+    subst (λ ys. Among ys (get_or keys index 0)) e (among_permuted keys found (IsPermutation-sym found keys same) (get_or keys index 0) (at_among keys index inside)) in
+    ltb-true least (get_or keys index 0) (of_filtered (λ k. nat_lt least k) xs (get_or keys index 0) a)

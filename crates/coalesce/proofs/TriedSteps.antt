@@ -1,11 +1,11 @@
 -- Pairs that are tried one after another, and what is known of the graph meanwhile.
-use Rattle.std.proofs.Common.{◌≡◌, ◌≢◌, ℕ, zero, suc, ◌+◌, ◌*◌, ◌<◌, ◌≤◌, Bool, true, false, ◌||◌, List, [], ◌∷◌, Option, Some, None, Ok, Err, Result, refl, sym, ap, ◌∙◌, subst, arith, length, map, get_or, inl, inr, ◌⊎◌}
-use Rattle.std.specs.Prelude.{slice_get, filter, ◌==◌, if◌then◌else◌, Vec, nat_lt}
+use Rattle.std.proofs.Common.{◌≡◌, ◌≢◌, ℕ, ◌+◌, ◌*◌, ◌<◌, ◌≤◌, Bool, true, false, ◌||◌, List, [], ◌∷◌, Option, Some, None, Ok, Err, Result, refl, sym, ap, ◌∙◌, subst, arith, length, map, get_or, inl, inr, ◌⊎◌}
+use Rattle.std.specs.Prelude.{slice_get, ◌==◌, if◌then◌else◌, Vec}
 use Rattle.std.specs.declared.alloc.Global.{Global}
 use Rattle.std.specs.HashMap.{HashMap}
 use Rattle.std.specs.BTreeSet.{BTreeSet, btree_set_len}
 use Rattle.std.specs.Result.{IsErr}
-use Rattle.std.proofs.lemmas.Bool.{cases_Bool, cases_eq, ne_eqb, eq-eqb, lt-ltb, ltb-true}
+use Rattle.std.proofs.lemmas.Bool.{cases_eq, ne_eqb, eq-eqb, lt-ltb}
 use Rattle.std.proofs.lemmas.Nat.{mul-le}
 use Rattle.node_arena.specs.Items.{keys_of}
 use Rattle.rp_text.specs.declared.NoMemory.{NoMemory}
@@ -30,7 +30,7 @@ use Rattle.coalesce.specs.MergeKeeps.{twins_before, size_merged, first_of}
 use Rattle.coalesce.specs.Pairs.{only_link, full_at}
 use Rattle.coalesce.specs.Tried.{TriedPair, TriedTwins, IsKnown}
 use Rattle.coalesce.specs.Waiting.{Waits, AreFew, TakesOut, TwinsWait, OthersWait}
-use Rattle.coalesce.proofs.FanSteps.{among_at, each_more, key_listed}
+use Rattle.coalesce.proofs.FanSteps.{among_at, each_more, key_listed, item_at}
 use Rattle.coalesce.proofs.PairSteps.{only_is}
 
 -- a light Back link that stands alone is the only one
@@ -64,25 +64,6 @@ twins_look g a b w = (
 
     same : Some (record { source = w.link_b.from; weight = counted_weight g w.b.kind w.link_b; kind = w.b.kind; state = w.b.state; first = w.b.first; due = w.b.due; priority = w.b.priority }) ≡ Some look
     same = rw (sym (counted_alike g w.a.kind w.b.kind w.link_a w.link_b w.kind w.source w.alike), w.source, ← w.kind, ← w.state, ← w.first, ← w.due, ← w.priority) refl
-
--- those above a number
-filtered : (p : ℕ → Bool) (xs : List ℕ) (i x : ℕ) → i < length (filter p xs) → x ≡ get_or (filter p xs) i x → p x ≡ true
-filtered p [] i x h e = absurd (omega arith)
-filtered p (y ∷ xs) zero x h e = elim (cases_Bool (p y)) [
-  | inl t ↦ (let same : x ≡ y = rw t at e in ap p same ∙ t)
-  | inr f ↦ filtered p xs zero x (rw f at h) (rw f at e)
-]
-filtered p (y ∷ xs) (suc i) x h e = elim (cases_Bool (p y)) [
-  | inl t ↦ (let less : suc i < suc (length (filter p xs)) = rw t at h in filtered p xs i x (omega arith) (rw t at e))
-  | inr f ↦ filtered p xs (suc i) x (rw f at h) (rw f at e)
-]
-
-pub among_filtered : (p : ℕ → Bool) (xs : List ℕ) (x : ℕ) → Among xs x → p x ≡ true → Among (filter p xs) x
-among_filtered p [] x a t = absurd a
-among_filtered p (y ∷ xs) x a t = elim a [
-  | inl e ↦ rw (subst (λ z. p z ≡ true) e t) (inl e)
-  | inr b ↦ elim (cases_Bool (p y)) [ inl h ↦ rw h (inr (among_filtered p xs x b t)) | inr h ↦ rw h (among_filtered p xs x b t) ]
-]
 
 -- The lists stay right where the kept node gets the targets of the one that goes.
 pub fans_merged : (g : Nodes) (keep gone : ℕ) (old new : List (Vec ℕ Global)) → AreFanOuts g old → Keeps old new → ((key : ℕ) → Among (targets_of old gone) key → Among (targets_of new keep) key) →
@@ -234,10 +215,10 @@ left_first g numbers keep later wait a b less w = elim (wait a b less w) [
   | inr h ↦ inl h
 ]
 
-gone_apart : (keep gone : ℕ) (g : Nodes) (a b : ℕ) → AreTwins (merge g keep gone) a b → b ≢ gone
+pub gone_apart : (keep gone : ℕ) (g : Nodes) (a b : ℕ) → AreTwins (merge g keep gone) a b → b ≢ gone
 gone_apart keep gone g a b w e = let no : Some w.b ≡ None = sym w.there_b ∙ ap (node_at (merge g keep gone)) e ∙ at_gone g keep gone in absurd (cc)
 
-one_more_tried : (later : List ℕ) (index x b : ℕ) → index < length later → x ≡ get_or later index x → b ≢ x → ((i : ℕ) → i < index → get_or later i 0 ≢ b) → (i : ℕ) → i < index + 1 → get_or later i 0 ≢ b
+pub one_more_tried : (later : List ℕ) (index x b : ℕ) → index < length later → x ≡ get_or later index x → b ≢ x → ((i : ℕ) → i < index → get_or later i 0 ≢ b) → (i : ℕ) → i < index + 1 → get_or later i 0 ≢ b
 one_more_tried later index x b less here apart before = each_more (λ k. k ≢ b) later index x less here before (λ e. apart (sym e))
 
 pub left_next : (old g h : Nodes) (numbers : BTreeSet ℕ) (keep : ℕ) (took more : Bool) (later : List ℕ) (index x : ℕ) → index < length later → x ≡ get_or later index x →
@@ -292,13 +273,13 @@ lookless g numbers keep none wait a b less w = elim (wait a b less w) [
   | inr h ↦ h
 ]
 
--- a twin above the node is among the members of its look that stand above it
-pub twin_later : {S : Type 0} (g : Nodes) (keep gone : ℕ) (look : Look) (lists : List (Vec ℕ Global)) (groups : HashMap Look (Vec ℕ Global) S) → IsKnown g lists groups → look_at g keep ≡ Some look → keep < gone →
-    AreTwins g keep gone → Among (filter (λ key. nat_lt keep key) (members groups look)) gone
-twin_later g keep gone look lists groups known e less w =
+-- a twin of the node is a member of its look
+pub twin_member : {S : Type 0} (g : Nodes) (keep gone : ℕ) (look : Look) (lists : List (Vec ℕ Global)) (groups : HashMap Look (Vec ℕ Global) S) → IsKnown g lists groups → look_at g keep ≡ Some look →
+    AreTwins g keep gone → Among (members groups look) gone
+twin_member g keep gone look lists groups known e w =
     let twins = twins_look g keep gone w in
     let same : Some look ≡ Some twins.0 = sym e ∙ twins.1 in
-    among_filtered (λ key. nat_lt keep key) (members groups look) gone (known.grouped gone look (twins.2 ∙ sym same)) (lt-ltb keep gone less)
+    known.grouped gone look (twins.2 ∙ sym same)
 
 reaches_size : {a b : Nodes} → Reaches Coalesces a b → length b ≡ length a
 reaches_size Stays = refl
@@ -373,6 +354,9 @@ known_first g keys lists groups e fans all = record { fans = fans; grouped = λ 
     by_entry key None there look here = absurd (let no : None ≡ Some look = sym (ap (look_in g) there) ∙ here in cc)
     by_entry key (Some node) there look here = all key (subst (λ (xs : List ℕ). Among xs key) (sym e) (key_listed g key node there)) look here
 
-pub stands_above : (keep : ℕ) (xs items : List ℕ) (index x : ℕ) → items ≡ filter (λ key. nat_lt keep key) xs → index < length items → x ≡ get_or items index x → keep < x
-stands_above keep xs items index x e inside here =
-    ltb-true keep x (filtered (λ key. nat_lt keep key) xs index x (subst (λ (ys : List ℕ). index < length ys) e inside) (subst (λ (ys : List ℕ). x ≡ get_or ys index x) e here))
+-- what stands at an index of a list of higher nodes is higher
+pub stands_above : (keep : ℕ) (later items : List ℕ) (index x : ℕ) → items ≡ later → ((i : ℕ) → i < length later → keep < get_or later i 0) → index < length items → x ≡ get_or items index x → keep < x
+stands_above keep later items index x e above inside here =
+    let less : index < length later = omega (arith, inside, ap (λ xs. length xs) e) in
+    let same : x ≡ get_or later index 0 = item_at items index x inside here ∙ ap (λ xs. get_or xs index 0) e in
+    omega (arith, above index less, same)

@@ -8,5 +8,6 @@ pub mod FanOuts
 pub mod Tried
 pub mod Pairs
 pub mod Looks
+pub mod Sweeps
 pub mod Waiting
 pub mod Order

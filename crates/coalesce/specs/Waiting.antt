@@ -24,6 +24,12 @@ pub record TakesOut (old new : BTreeSet ℕ) (number : ℕ) : Type 0 where
   pub no_other : (key : ℕ) → Waits new key → Waits old key
   pub one_less : btree_set_len new + 1 ≡ btree_set_len old
 
+-- the first that waits from this number on or, where none does, the first of all
+abbrev pub IsNext : BTreeSet ℕ → ℕ → ℕ → Type 0
+IsNext numbers from number =
+    ((from ≤ number) × ((key : ℕ) → from ≤ key → key < number → Waits numbers key → ⊥)) ⊎
+    (((key : ℕ) → from ≤ key → Waits numbers key → ⊥) × ((key : ℕ) → key < number → Waits numbers key → ⊥))
+
 -- The lower of two twins waits.
 abbrev pub TwinsWait : Nodes → BTreeSet ℕ → Type 0
 TwinsWait g numbers = (a b : ℕ) → a < b → AreTwins g a b → Waits numbers a

@@ -5,6 +5,8 @@ ghost use Rattle.std.specs.Prelude.{OnOk};
 ghost use Rattle.graph.specs.Sound.{IsSound};
 ghost use Rattle.graph.specs.Steps.{Coalesces};
 ghost use Rattle.pass_frame.specs.Frame.{Ran, IsDone};
+ghost use Rattle.pass_frame.specs.Rounds.{Rounds};
+ghost use Rattle.coalesce.specs.Sweeps.{SweepsOnce};
 
 use graph::Graph;
 use pass_frame::Pass;
@@ -31,10 +33,13 @@ pub struct Coalesce;
 impl Pass for Coalesce {
     ghost step = { Coalesces };
 
+    ghost turn = { Rounds SweepsOnce };
+
     fn run(&mut self, graph: &mut Graph) -> Result<bool, NoMemory>
         requires { IsSound graph.old.nodes }
         ensures ran { Ran Coalesces graph.old.nodes result graph.new.nodes }
         ensures done { OnOk result (IsDone Coalesces graph.new.nodes) }
+        ensures turn { OnOk result (Rounds SweepsOnce graph.old.nodes graph.new.nodes) }
     {
         sweep::take_all(graph)
     }

@@ -1,6 +1,7 @@
 //! What twins have in common, and the nodes that have it in common.
 
-ghost use Rattle.std.specs.Prelude.{◌≡◌, ℕ, OnOk, IfOk, filter, nat_lt};
+ghost use Rattle.std.specs.Prelude.{◌≡◌, ℕ, ◌<◌, OnOk, IfOk, filter, nat_lt, length, get_or};
+ghost use Rattle.std.specs.List.Sorted.{IsNonDecreasing};
 ghost use Rattle.circuit.specs.Circuit.{Among};
 ghost use Rattle.graph.specs.Graph.{node_at};
 ghost use Rattle.graph.specs.Stored.{plain};
@@ -63,7 +64,7 @@ fn counted_weight(graph: &Graph, kind: Kind, link: Link) -> u8
     }
 }
 
-// For each look the nodes that have it, rising. Nodes that were dropped may stand among them.
+// For each look the nodes that have it. Nodes that were dropped may stand among them.
 #[derive(Drop)]
 pub struct Groups {
     alloc: Global,
@@ -101,19 +102,29 @@ impl Groups {
         Ok(())
     }
 
-    // Puts the node in where its number belongs.
+    // Puts the node among those of its look.
     fn put(&mut self, look: Look, key: NodeKey) -> Result<(), NoMemory>
         ensures keeps { OnOk result (KeepsMembers self.old.lists self.new.lists) }
         ensures added { OnOk result (Among (members self.new.lists look) key) }
     {
         let mut list = self.lists.remove(&look).unwrap_or(Vec::new(self.alloc));
-        put_in_order(&mut list, key)?;
+        list.push(key)?;
         self.lists.insert(look, list)?;
         Ok(())
     }
 
-    // The nodes of this look that stand above another node.
+    // The nodes of this look that stand above another node, in order.
     pub fn above(&self, look: Look, least: NodeKey) -> Result<Vec<NodeKey>, NoMemory>
+        ensures all { IfOk result (λ keys. (key : ℕ) → least < key → Among (members self.now.lists look) key → Among keys.items key) }
+        ensures above { IfOk result (λ keys. (index : ℕ) → index < length keys.items → least < get_or keys.items index 0) }
+        ensures rise { IfOk result (λ keys. IsNonDecreasing keys.items) }
+    {
+        let mut keys = self.members_above(look, least)?;
+        keys.sort_unstable();
+        Ok(keys)
+    }
+
+    fn members_above(&self, look: Look, least: NodeKey) -> Result<Vec<NodeKey>, NoMemory>
         ensures { IfOk result (λ keys. keys.items ≡ filter (λ key. nat_lt least key) (members self.now.lists look)) }
     {
         let keys = self
@@ -133,14 +144,4 @@ impl Groups {
             None => &[],
         }
     }
-}
-
-// Puts a node where it belongs among nodes that rise.
-fn put_in_order(list: &mut Vec<NodeKey>, key: NodeKey) -> Result<(), NoMemory>
-    ensures keeps { OnOk result ((other : ℕ) → Among list.old.items other → Among list.new.items other) }
-    ensures added { OnOk result (Among list.new.items key) }
-{
-    let place = list.partition_point(|other| *other < key);
-    list.insert(place, key)?;
-    Ok(())
 }

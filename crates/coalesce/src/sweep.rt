@@ -3,11 +3,14 @@
 ghost use Rattle.std.specs.Prelude.{◌≡◌, ◌<◌, false, true, ℕ, Some, OnOk, IfOk};
 ghost use Rattle.circuit.specs.Circuit.{Among};
 ghost use Rattle.node_arena.specs.Items.{keys_of};
+ghost use Rattle.graph.specs.Graph.{Nodes};
 ghost use Rattle.graph.specs.Steps.{Coalesces};
 ghost use Rattle.pass_frame.specs.Frame.{Ran, IsDone};
+ghost use Rattle.pass_frame.specs.Rounds.{Rounds};
 ghost use Rattle.coalesce.specs.declared.looks.Look.{Look};
 ghost use Rattle.coalesce.specs.FanOuts.{targets_of};
 ghost use Rattle.coalesce.specs.Looks.{look_at};
+ghost use Rattle.coalesce.specs.Sweeps.{Sweep, SweepsOnce};
 ghost use Rattle.coalesce.specs.Tried.{TriedPair, TriedTwins, IsKnown};
 ghost use Rattle.coalesce.specs.Waiting.{Waits, AreFew, TwinsWait, OthersWait};
 
@@ -27,6 +30,7 @@ use std::alloc::Global;
 pub fn take_all(graph: &mut Graph) -> Result<bool, NoMemory>
     ensures ran { Ran Coalesces graph.old.nodes result graph.new.nodes }
     ensures done { OnOk result (IsDone Coalesces graph.new.nodes) }
+    ensures turn { OnOk result (Rounds SweepsOnce graph.old.nodes graph.new.nodes) }
 {
     let keys = graph.keys()?;
     let alloc = *keys.allocator();
@@ -77,6 +81,7 @@ fn take_twins(
     ensures wait { OnOk result (TwinsWait graph.new.nodes waiting.new.numbers) }
     ensures few { OnOk result (AreFew graph.new.nodes waiting.new.numbers) }
     ensures rest { IfOk result (λ took. took ≡ false → waiting.new.numbers ≡ waiting.old.numbers) }
+    ensures sweep { OnOk result ((end : Nodes) → Sweep keep 0 graph.new.nodes end → Sweep keep 0 graph.old.nodes end) }
 {
     let Some(look) = look_of(graph, keep) else {
         return Ok(false);

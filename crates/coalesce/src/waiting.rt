@@ -6,7 +6,7 @@ ghost use Rattle.circuit.specs.Circuit.{Among};
 ghost use Rattle.graph.specs.Graph.{node_at};
 ghost use Rattle.coalesce.specs.declared.looks.Look.{Look};
 ghost use Rattle.coalesce.specs.Looks.{look_at};
-ghost use Rattle.coalesce.specs.Waiting.{Waits, AreBelow, AreFew, TakesOut};
+ghost use Rattle.coalesce.specs.Waiting.{Waits, AreBelow, AreFew, TakesOut, IsNext};
 
 use crate::looks::look_of;
 use graph::{Graph, NodeKey};
@@ -34,6 +34,7 @@ impl Waiting {
     // Takes out the first node from this number on or, where there is none, the first of all.
     pub fn next(&mut self, from: u32) -> Option<u32>
         ensures some { IfSome result (TakesOut self.old.numbers self.new.numbers) }
+        ensures first { IfSome result (IsNext self.old.numbers from) }
         ensures none { IfNone result ((key : ℕ) → Waits self.old.numbers key → ⊥) }
     {
         let number = self.first_from(from)?;
@@ -43,6 +44,7 @@ impl Waiting {
 
     fn first_from(&self, from: u32) -> Option<u32>
         ensures some { IfSome result (λ number. Waits self.now.numbers number) }
+        ensures first { IfSome result (IsNext self.now.numbers from) }
         ensures none { IfNone result ((key : ℕ) → Waits self.now.numbers key → ⊥) }
     {
         match self.numbers.range(from..).next() {

@@ -1,8 +1,11 @@
 -- One turn more was had. Where none waits no step is left.
-use Rattle.std.proofs.Common.{refl, sym, ◌∙◌}
+use Rattle.std.proofs.Common.{refl, sym, ◌∙◌, subst}
+use Rattle.graph.specs.Graph.{Nodes}
 use Rattle.graph.specs.Steps.{Coalesces}
 use Rattle.pass_frame.specs.Frame.{Stays}
 use Rattle.pass_frame.proofs.Sweeps.{took_ran}
+use Rattle.coalesce.specs.Sweeps.{Sweep}
+use Rattle.coalesce.proofs.SweepSteps.{sweeping_first, sweeping_on, sweeping_ends}
 use Rattle.coalesce.proofs.TriedSteps.{ran_err, took_turn, twins_reached, turn_falls, none_left, others_wait, all_wait}
 use Rattle.coalesce.proofs.WaitSteps.{few_left, few_none}
 use Rattle.coalesce.proofs.sweep.take_all.Goals as goal
@@ -25,6 +28,7 @@ loop-number-init c = record {
   wait = all_wait c.args.graph.now.nodes c.add_all.new.self.numbers c.deref-2.result.now (c.deref-2.ensures.value ∙ c.in_ok-keys.ensures) c.in_ok-add_all.ensures.all;
   few = c.in_ok-add_all.ensures.few;
   took = refl;
+  sweeping = sweeping_first c.args.graph.now.nodes;
 }
 
 pub take_twins-requires-clause-wait : goal.take_twins-requires-clause-wait
@@ -49,6 +53,8 @@ loop-number-preserved c = record {
   wait = c.in_ok-took.ensures.wait;
   few = c.in_ok-took.ensures.few;
   took = took_turn c.args.graph.now.nodes c.loop-number.graph.nodes c.take_twins.new.graph.nodes c.loop-number.took c.in_ok-took.field-0 c.loop-number.invariant.took c.in_ok-took.ensures.tried;
+  sweeping = sweeping_on c.args.graph.now.nodes c.loop-number.graph.nodes c.take_twins.new.graph.nodes c.loop-number.waiting.numbers c.loop-number.place c.in-Some.number c.loop-number.invariant.sweeping c.loop-number.invariant.wait c.in-Some.ensures.first
+      (subst (λ key. (end : Nodes) → Sweep key 0 c.take_twins.new.graph.nodes end → Sweep key 0 c.loop-number.graph.nodes end) c.new.ensures c.in_ok-took.ensures.sweep);
 }
 
 pub returns-clause-ran : goal.returns-clause-ran
@@ -57,3 +63,6 @@ returns-clause-ran c = took_ran Coalesces c.args.graph.now.nodes c.loop-number.g
 
 pub returns-clause-done : goal.returns-clause-done
 returns-clause-done c = none_left c.loop-number.graph.nodes c.loop-number.waiting.numbers c.loop-number.invariant.wait c.in_default.ensures.none
+
+pub returns-clause-turn : goal.returns-clause-turn
+returns-clause-turn c = sweeping_ends c.args.graph.now.nodes c.loop-number.graph.nodes c.loop-number.waiting.numbers c.loop-number.place c.loop-number.invariant.sweeping c.loop-number.invariant.wait c.in_default.ensures.none
