@@ -5,7 +5,8 @@ ghost use Rattle.std.specs.Prelude.{◌≡◌, true, false, IfOk, OnOk};
 ghost use Rattle.graph.specs.Done.{Step, IsDone};
 ghost use Rattle.graph.specs.Sound.{IsSound};
 ghost use Rattle.pass_frame.specs.Frame.{Reaches};
-ghost use Rattle.compiler.specs.Compiled.{Compiled, prunes};
+ghost use Rattle.pass_frame.specs.Rounds.{Rounds};
+ghost use Rattle.compiler.specs.Compiled.{Compiled, Round, prunes};
 ghost use Rattle.input_search.specs.Raw.{raw};
 
 use build::{Build, Marks};
@@ -63,6 +64,7 @@ fn run_passes(graph: &mut Graph, keep: Keep) -> Result<(), NoMemory>
     requires { IsSound graph.old.nodes }
     ensures steps { OnOk result (Reaches (Step (prunes keep)) graph.old.nodes graph.new.nodes) }
     ensures done { OnOk result (IsDone (prunes keep) graph.new.nodes) }
+    ensures rounds { OnOk result (Rounds (Round (prunes keep)) graph.old.nodes graph.new.nodes) }
 {
     match keep {
         Keep::Prune => run_chain::<true>(graph),
@@ -75,6 +77,7 @@ fn run_chain<const PRUNES: bool>(graph: &mut Graph) -> Result<(), NoMemory>
     requires { IsSound graph.old.nodes }
     ensures steps { OnOk result (Reaches (Step PRUNES) graph.old.nodes graph.new.nodes) }
     ensures done { OnOk result (IsDone PRUNES graph.new.nodes) }
+    ensures rounds { OnOk result (Rounds (Round PRUNES) graph.old.nodes graph.new.nodes) }
 {
     let mut passes = Stable {
         pass: Then {

@@ -4,7 +4,8 @@ use Rattle.graph.specs.Done.{Step}
 use Rattle.graph.specs.Sound.{IsSound}
 use Rattle.pass_frame.specs.Frame.{Reaches}
 use Rattle.input_search.proofs.SoundRaw.{raw_sound}
-use Rattle.compiler.specs.Compiled.{prunes}
+use Rattle.pass_frame.specs.Rounds.{Rounds}
+use Rattle.compiler.specs.Compiled.{prunes, Round}
 use Rattle.compiler.proofs.compile_build.Goals as goal
 
 pub run_passes-requires : goal.run_passes-requires
@@ -14,4 +15,5 @@ pub returns : goal.returns
 returns c = record {
   steps = subst (λ (old : Nodes). Reaches (Step (prunes c.args.keep)) old c.run_passes.new.graph.nodes) c.in_ok-graph.ensures c.in_ok-run_passes.ensures.steps;
   done = c.in_ok-run_passes.ensures.done;
+  rounds = subst (λ (old : Nodes). Rounds (Round (prunes c.args.keep)) old c.run_passes.new.graph.nodes) c.in_ok-graph.ensures c.in_ok-run_passes.ensures.rounds;
 }

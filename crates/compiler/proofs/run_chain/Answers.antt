@@ -7,3 +7,6 @@ returns-clause-steps g c = ran_reaches _ c.args.graph.now.nodes c.run.new.graph.
 
 pub returns-clause-done : goal.returns-clause-done
 returns-clause-done g c = c.in_ok-run.ensures.done
+
+pub returns-clause-rounds : goal.returns-clause-rounds
+returns-clause-rounds g c = c.in_ok-run.ensures.turn
