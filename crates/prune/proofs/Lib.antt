@@ -4,3 +4,4 @@ pub mod SearchSteps
 pub mod KeySteps
 pub mod OrderSteps
 pub mod SampleSteps
+pub mod OneEnd

@@ -113,7 +113,7 @@ chain : {test : ℕ → Bool} (keys : List ℕ) → Each (λ k. test k ≡ true)
 chain [] e g may = (g, Stays, record { size = refl; outside = λ k h. refl; gone = λ k a. absurd a; stays_gone = λ k h. h })
 chain (key ∷ keys) e g may = next_chain may key keys e.0 (chain keys e.1)
 
-nodes_same : (a b : Nodes) → length a ≡ length b → ((k : ℕ) → node_at a k ≡ node_at b k) → a ≡ b
+pub nodes_same : (a b : Nodes) → length a ≡ length b → ((k : ℕ) → node_at a k ≡ node_at b k) → a ≡ b
 nodes_same [] [] l h = refl
 nodes_same (m ∷ a) (n ∷ b) l h =
     let first : m ≡ n = h 0 in

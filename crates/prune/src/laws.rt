@@ -1,11 +1,13 @@
-//! The law of prune with its order. It is a function with nothing to do whose contract is the law.
+//! Laws of prune. Each is a function with nothing to do whose contract is the law.
 
+ghost use Rattle.std.specs.Prelude.{◌≡◌};
 ghost use Rattle.circuit.specs.PutLast.{RefinesWith};
 ghost use Rattle.graph.specs.Graph.{Nodes};
 ghost use Rattle.graph.specs.GraphCircuit.{graph_circuit};
 ghost use Rattle.graph.specs.Sound.{IsSound};
 ghost use Rattle.graph.specs.Steps.{Prunes};
 ghost use Rattle.pass_frame.specs.Frame.{Reaches};
+ghost use Rattle.pass_frame.specs.Rounds.{Exhausts};
 ghost use Rattle.prune.specs.Order.{dropped_keys, AgreeOn};
 
 /// What a run of prune leaves of a sound graph plays as the whole graph does: each of its runs
@@ -17,4 +19,9 @@ ghost use Rattle.prune.specs.Order.{dropped_keys, AgreeOn};
 pub fn dropped_nodes_fire_last()
     ensures { (old new : Nodes) → IsSound old → Reaches Prunes old new →
         RefinesWith (graph_circuit old) (graph_circuit new) (dropped_keys old new) (AgreeOn new) }
+{}
+
+/// Pruning has one end: however it is taken until nothing is left to prune, one graph is left.
+pub fn prune_has_one_end()
+    ensures { (old one other : Nodes) → IsSound old → Exhausts Prunes old one → Exhausts Prunes old other → one ≡ other }
 {}
