@@ -1,2 +1,3 @@
 pub mod WaitLists
 pub mod TendSteps
+pub mod OneEnd

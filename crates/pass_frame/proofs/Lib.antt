@@ -1,3 +1,4 @@
 pub mod FrameSteps
 pub mod Sweeps
 pub mod Turns
+pub mod SameNodes

@@ -8,12 +8,12 @@ use Rattle.graph.specs.Steps.{Reaches, Itself, Along, Prunes}
 use Rattle.pass_frame.specs.Frame.{IsDone}
 use Rattle.pass_frame.specs.Rounds.{Exhausts}
 use Rattle.pass_frame.proofs.FrameSteps.{reaches_sound}
+use Rattle.pass_frame.proofs.SameNodes.{nodes_same}
 use Rattle.prune.specs.DropSteps.{below, lives_of}
 use Rattle.prune.specs.Pruned.{IsPruned}
 use Rattle.prune.specs.PruneLaws.{prune_sound}
 use Rattle.prune.proofs.OrderSteps.{pruned_after}
 use Rattle.prune.proofs.ReachTest.{from_below, keys_reached, keys_reached_are}
-use Rattle.prune.proofs.StepChain.{nodes_same}
 
 -- what a node that went reaches went too
 went_along : {old new : Nodes} → IsPruned old new → (a b : ℕ) → Reaches old a b → node_at new a ≡ None → node_at new b ≡ None

@@ -1,5 +1,5 @@
 -- Dropping all unseen nodes at once is pruning them one after another, by rising number.
-use Rattle.std.proofs.Common.{◌≡◌, ℕ, suc, ◌<◌, Bool, true, false, not, List, [], ◌∷◌, Option, Some, None, Ok, refl, sym, ap, ◌∙◌, subst, arith, length, inl, inr}
+use Rattle.std.proofs.Common.{◌≡◌, ℕ, ◌<◌, Bool, true, false, not, List, [], ◌∷◌, Option, Some, None, Ok, refl, sym, ap, ◌∙◌, subst, arith, length, inl, inr}
 use Rattle.std.specs.Prelude.{◌==◌}
 use Rattle.std.proofs.lemmas.Bool.{cases_Bool, false≢true, ne_eqb}
 use Rattle.circuit.specs.Circuit.{Each, Among}
@@ -9,6 +9,7 @@ use Rattle.graph.specs.Edits.{drop_set, IsClosed}
 use Rattle.graph.specs.Sound.{IsSound}
 use Rattle.graph.specs.Steps.{Reaches, Itself, Along, can_go, Prunes}
 use Rattle.pass_frame.specs.Frame.{Reaches as ReachesBy, Stays, Goes, IsDone, Ran}
+use Rattle.pass_frame.proofs.SameNodes.{nodes_same}
 use Rattle.prune.specs.Unseen.{IsUnseen, AreUnseen}
 use Rattle.prune.specs.Among.{is_among, is_among_of, among_of, each_of}
 use Rattle.prune.specs.DropSteps.{node_of, lives_of, below, kept_at, gone_at, was_at, length-drop_set}
@@ -112,15 +113,6 @@ next_chain {test} {g} may key keys passes more = by_entry (node_at g key) refl
 chain : {test : ℕ → Bool} (keys : List ℕ) → Each (λ k. test k ≡ true) keys → (g : Nodes) → MayGo test g → Chain test keys g
 chain [] e g may = (g, Stays, record { size = refl; outside = λ k h. refl; gone = λ k a. absurd a; stays_gone = λ k h. h })
 chain (key ∷ keys) e g may = next_chain may key keys e.0 (chain keys e.1)
-
-pub nodes_same : (a b : Nodes) → length a ≡ length b → ((k : ℕ) → node_at a k ≡ node_at b k) → a ≡ b
-nodes_same [] [] l h = refl
-nodes_same (m ∷ a) (n ∷ b) l h =
-    let first : m ≡ n = h 0 in
-    let others : a ≡ b = nodes_same a b (omega arith) (λ k. h (suc k)) in
-    λ i. first i ∷ others i
-nodes_same [] (n ∷ b) l h = absurd (omega arith)
-nodes_same (m ∷ a) [] l h = absurd (omega arith)
 
 rest_is : (g new : Nodes) (keys : List ℕ) → IsRest (is_among keys) keys g new → new ≡ drop_set g keys
 rest_is g new keys rest = nodes_same new (drop_set g keys) (rest.size ∙ sym (length-drop_set g keys))
