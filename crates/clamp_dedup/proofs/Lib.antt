@@ -1,2 +1,4 @@
 pub mod ClampSteps
 pub mod DedupSteps
+pub mod ClampEnd
+pub mod DedupEnd

@@ -6,10 +6,12 @@ use Rattle.std.proofs.lemmas.Bool.{cases_eq, cases_lt}
 use Rattle.circuit.specs.Circuit.{Among}
 use Rattle.graph.specs.Graph.{Nodes}
 use Rattle.graph.specs.Edits.{merge}
+use Rattle.graph.specs.Sound.{IsSound}
 use Rattle.graph.specs.Steps.{AreTwins}
 use Rattle.pass_frame.specs.Frame.{Reaches, Stays, Goes}
 use Rattle.pass_frame.specs.Rounds.{Rounds}
 use Rattle.pass_frame.proofs.FrameSteps.{reaches_append}
+use Rattle.coalesce.specs.CoalesceLaws.{coalesce_sound}
 use Rattle.coalesce.specs.MergeKeeps.{twins_before}
 use Rattle.coalesce.specs.Sweeps.{IsBefore, AreFirst, Sweep, Ends, Takes, SweepsOnce}
 use Rattle.coalesce.specs.Tried.{TriedPair}
@@ -197,3 +199,9 @@ goes_next old g h keep true later index x inside here less rise all tried own ne
         | inr e ↦ absurd (omega (arith, e.1, above d (omega (arith, e.0, up)) (subst (λ k. AreTwins h k d) e.0 w)))
       ];
     }
+
+-- A sweep keeps a graph sound.
+pub sweep_sound : {a b : ℕ} (old new : Nodes) → IsSound old → Sweep a b old new → IsSound new
+sweep_sound old _ sound (Ends h) = sound
+sweep_sound old new sound (Takes {keep = keep} {gone = gone} f r) =
+    sweep_sound (merge old keep gone) new (coalesce_sound old (merge old keep gone) sound (record { keep = keep; gone = gone; earlier = f.earlier; twins = f.twins; after = refl })) r

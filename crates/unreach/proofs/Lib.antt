@@ -1,2 +1,3 @@
 pub mod UnreachSteps
 pub mod RunsKeep
+pub mod OneEnd
