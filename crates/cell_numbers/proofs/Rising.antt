@@ -1,11 +1,12 @@
 -- The numbers of the cells of a rising list.
-use Rattle.std.proofs.Common.{◌≡◌, ℕ, zero, suc, ◌<◌, ◌==◌, Bool, true, false, List, [], ◌∷◌, length, get_or, Option, Some, None, AllPairs, refl, sym, ◌∙◌, ap, inl, inr, arith}
-use Rattle.std.specs.Prelude.{option_map}
+use Rattle.std.proofs.Common.{◌≡◌, ℕ, zero, suc, ◌+◌, ◌<◌, ◌≤◌, ◌==◌, Bool, true, false, List, [], ◌∷◌, length, get_or, Option, Some, None, All, AllPairs, refl, sym, ◌∙◌, ap, inl, inr, arith}
+use Rattle.std.specs.Prelude.{filter, option_map}
 use Rattle.std.specs.List.{range_with_len}
 use Rattle.std.proofs.lemmas.Bool.{cases_Bool}
 use Rattle.std.proofs.lemmas.Bool.Decides.{nat_tests}
 use Rattle.std.proofs.lemmas.List.FromFn.{length-range_with_len, get_or-range_with_len}
 use Rattle.std.proofs.lemmas.List.Kept.{AllPairs-filter}
+use Rattle.std.proofs.lemmas.List.Elements.{All-nil, All-cons, All-filter}
 use Rattle.cell_numbers.specs.Numbers.{number_in}
 use Rattle.cell_numbers.proofs.Kept.{kept, differs, number-kept}
 
@@ -43,6 +44,10 @@ range-rises a n i j d h k =
     let within : j < n = omega (arith, length-range_with_len a n) in
     omega (arith, get_or-range_with_len a n i d (omega arith), get_or-range_with_len a n j d within)
 
+range-below : (a n m : ℕ) → a + n ≤ m → All (λ i. i < m) (range_with_len a n)
+range-below a zero m h = All-nil (λ i. i < m)
+range-below a (suc n) m h = All-cons (λ i. i < m) a (range_with_len (a + 1) n) (omega arith) (range-below (a + 1) n m (omega arith))
+
 -- ---- the part of a range that passes a test
 
 pub kept-rises : (test : ℕ → Bool) (a n : ℕ) → AllPairs (λ i j. i < j) (kept test a n)
@@ -50,3 +55,6 @@ kept-rises test a n = AllPairs-filter (λ i j. i < j) test (range_with_len a n) 
 
 pub number-passes : (test : ℕ → Bool) (n c : ℕ) → c < n → test c ≡ true → (i : ℕ) × (number_in (kept test 0 n) c ≡ Some i)
 number-passes test n c h e = (length (kept test 0 c), number-kept test 0 n c c (omega arith) h ∙ rw e refl)
+
+pub kept-below : (test : ℕ → Bool) (n : ℕ) → All (λ i. i < n) (kept test 0 n)
+kept-below test n = All-filter test (λ i. i < n) (range_with_len 0 n) (range-below 0 n n (omega arith))
