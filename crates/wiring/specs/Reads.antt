@@ -3,7 +3,7 @@ use Rattle.std.specs.Prelude.{◌≡◌, ℕ, Bool, true, false, List, [], ◌�
 use Rattle.std.specs.List.{flat_map}
 use Rattle.wire_net.specs.Net.{greatest}
 use Rattle.block_table.specs.declared.Block.{Block}
-use Rattle.block_table.specs.declared.Block.TheVariants.{Torch, WallTorch, Repeater, Comparator, Lever, Button, Plate, RedstoneBlock, Weighted}
+use Rattle.block_table.specs.declared.Block.TheVariants.{Air, Inert, Slab, Wire, Torch, WallTorch, Repeater, Comparator, Lever, Button, Plate, RedstoneBlock, Lamp, Trapdoor, Container, Composter, Cauldron, Cake, Weighted, Note}
 use Rattle.circuit.specs.declared.Pos.{Pos}
 use Rattle.circuit.specs.declared.Readings.{Readings}
 use Rattle.circuit.specs.Circuit.{Among}
@@ -28,7 +28,17 @@ given_of (Plate name powered) level = full level
 given_of (Weighted name power) level = level
 given_of (Repeater delay facing powered) level = full level
 given_of (Comparator facing subtract) level = level
-given_of _ level = 0
+given_of Air level = 0
+given_of (Inert name) level = 0
+given_of (Slab name half) level = 0
+given_of (Wire north east south west power) level = 0
+given_of (Lamp lit) level = 0
+given_of (Trapdoor facing top powered) level = 0
+given_of (Container name) level = 0
+given_of (Composter filled) level = 0
+given_of (Cauldron water filled) level = 0
+given_of (Cake bites) level = 0
+given_of (Note powered) level = 0
 
 -- what a tap gives at these levels: a component its output, a wire its whole power
 abbrev pub tap_value : Plan → (Pos → ℕ) → Tap → ℕ
@@ -46,7 +56,17 @@ is_source (Lever face facing powered) = true
 is_source (Button name face facing powered) = true
 is_source (Repeater delay facing powered) = true
 is_source (Comparator facing subtract) = true
-is_source _ = false
+is_source Air = false
+is_source (Inert name) = false
+is_source (Slab name half) = false
+is_source (Wire north east south west power) = false
+is_source (Lamp lit) = false
+is_source (Trapdoor facing top powered) = false
+is_source (Container name) = false
+is_source (Composter filled) = false
+is_source (Cauldron water filled) = false
+is_source (Cake bites) = false
+is_source (Note powered) = false
 
 -- a direct tap is at a block that can give power, and a wire tap at a wire
 abbrev pub IsTap : Plan → Tap → Type 0
@@ -87,7 +107,25 @@ highest level ps = greatest (map level ps)
 -- what a back reads where its taps give so much: a comparator has strengths of its own
 abbrev pub back_with : Plan → Pos → Block → ℕ → ℕ
 back_with b p (Comparator facing subtract) power = or_direct (direct_at b p facing) (or_far (far_at b p facing) power)
-back_with b p _ power = power
+back_with b p Air power = power
+back_with b p (Inert name) power = power
+back_with b p (Slab name half) power = power
+back_with b p (Wire north east south west stored) power = power
+back_with b p (Torch lit) power = power
+back_with b p (WallTorch facing lit) power = power
+back_with b p (Repeater delay facing powered) power = power
+back_with b p (Lever face facing powered) power = power
+back_with b p (Button name face facing powered) power = power
+back_with b p (Plate name powered) power = power
+back_with b p RedstoneBlock power = power
+back_with b p (Lamp lit) power = power
+back_with b p (Trapdoor facing top powered) power = power
+back_with b p (Container name) power = power
+back_with b p (Composter filled) power = power
+back_with b p (Cauldron water filled) power = power
+back_with b p (Cake bites) power = power
+back_with b p (Weighted name stored) power = power
+back_with b p (Note powered) power = power
 
 abbrev pub readings_with : Plan → Pos → ℕ → ℕ → Readings
 readings_with b p back side = record { back = back_with b p (block_at b p) back; side = side }

@@ -38,7 +38,18 @@ pub fn push_reader_taps(taps: &mut Vec<Tap>, build: &Build, reader: Pos) -> Resu
             taps.push(Tap::Wired(reader))?;
             Ok(())
         }
-        _ => Ok(()),
+        Block::Air
+        | Block::Inert { .. }
+        | Block::Slab { .. }
+        | Block::Lever { .. }
+        | Block::Button { .. }
+        | Block::Plate { .. }
+        | Block::RedstoneBlock
+        | Block::Container { .. }
+        | Block::Composter { .. }
+        | Block::Cauldron { .. }
+        | Block::Cake { .. }
+        | Block::Weighted { .. } => Ok(()),
     }
 }
 
@@ -95,6 +106,23 @@ pub fn push_reader_side_taps(
     match build.at(reader) {
         Block::Repeater { facing, .. } => push_taps_across(taps, build, false, reader, facing),
         Block::Comparator { facing, .. } => push_taps_across(taps, build, true, reader, facing),
-        _ => Ok(()),
+        Block::Air
+        | Block::Inert { .. }
+        | Block::Slab { .. }
+        | Block::Wire { .. }
+        | Block::Torch { .. }
+        | Block::WallTorch { .. }
+        | Block::Lever { .. }
+        | Block::Button { .. }
+        | Block::Plate { .. }
+        | Block::RedstoneBlock
+        | Block::Lamp { .. }
+        | Block::Trapdoor { .. }
+        | Block::Container { .. }
+        | Block::Composter { .. }
+        | Block::Cauldron { .. }
+        | Block::Cake { .. }
+        | Block::Weighted { .. }
+        | Block::Note { .. } => Ok(()),
     }
 }

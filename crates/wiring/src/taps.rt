@@ -49,7 +49,17 @@ fn lets_weak(block: Block, side: Side) -> bool
             side,
             opposite(facing),
         ),
-        _ => false,
+        Block::Air
+        | Block::Inert { .. }
+        | Block::Slab { .. }
+        | Block::Wire { .. }
+        | Block::Lamp { .. }
+        | Block::Trapdoor { .. }
+        | Block::Container { .. }
+        | Block::Composter { .. }
+        | Block::Cauldron { .. }
+        | Block::Cake { .. }
+        | Block::Note { .. } => false,
     }
 }
 
@@ -68,7 +78,18 @@ fn lets_strong(block: Block, side: Side) -> bool
             side,
             opposite(facing),
         ),
-        _ => false,
+        Block::Air
+        | Block::Inert { .. }
+        | Block::Slab { .. }
+        | Block::Wire { .. }
+        | Block::RedstoneBlock
+        | Block::Lamp { .. }
+        | Block::Trapdoor { .. }
+        | Block::Container { .. }
+        | Block::Composter { .. }
+        | Block::Cauldron { .. }
+        | Block::Cake { .. }
+        | Block::Note { .. } => false,
     }
 }
 
@@ -80,7 +101,7 @@ fn wire_gives(build: &Build, pos: Pos, side: Side) -> bool
     match side {
         Side::Down => true,
         Side::Up => false,
-        _ => points(build, pos, side),
+        Side::North | Side::South | Side::West | Side::East => points(build, pos, side),
     }
 }
 
@@ -248,7 +269,24 @@ fn is_turned(block: Block, side: Side) -> bool
         Block::Repeater { facing, .. } | Block::Comparator { facing, .. } => same_side(
             facing, side,
         ),
-        _ => false,
+        Block::Air
+        | Block::Inert { .. }
+        | Block::Slab { .. }
+        | Block::Wire { .. }
+        | Block::Torch { .. }
+        | Block::WallTorch { .. }
+        | Block::Lever { .. }
+        | Block::Button { .. }
+        | Block::Plate { .. }
+        | Block::RedstoneBlock
+        | Block::Lamp { .. }
+        | Block::Trapdoor { .. }
+        | Block::Container { .. }
+        | Block::Composter { .. }
+        | Block::Cauldron { .. }
+        | Block::Cake { .. }
+        | Block::Weighted { .. }
+        | Block::Note { .. } => false,
     }
 }
 

@@ -1,14 +1,15 @@
 //! The things of a build.
 
-ghost use Rattle.std.specs.Prelude.{◌≡◌, ◌≤◌, ◌<◌, ◌+◌, IfOk, OnOk, IfSome, length, slice_index};
-ghost use Rattle.build.specs.Plan.{volume, place_of};
+ghost use Rattle.std.specs.Prelude.{◌≡◌, ◌≤◌, ◌<◌, ◌+◌, IfOk, OnOk, IfSome, length};
+ghost use Rattle.build.specs.Plan.{volume};
 ghost use Rattle.build.specs.Outputs.{outputs};
 ghost use Rattle.build.specs.Roles.{role_at};
-ghost use Rattle.wiring.specs.Things.{IsNumbered, is_thing, number_at, IsNumberedTo, less_one};
+ghost use Rattle.wiring.specs.Things.{IsNumbered, is_thing, number_at, IsNumberedTo};
 ghost use Rattle.wiring.specs.Things.{spot};
 
 use block_table::Block;
 use build::{Build, Marks, OutPlace, outputs};
+use cell_numbers::CellNumbers;
 use circuit::{Component, Pos};
 use power_rules::component;
 use rp_text::NoMemory;
@@ -23,8 +24,8 @@ pub struct Things {
     build: Build,
     marks: Marks,
     spots: Vec<Pos>,
-    // For each cell of the box 0, or one more than the number of the thing there.
-    numbers: Vec<u32>,
+    // The cells in which they stand.
+    numbers: CellNumbers,
 }
 
 impl Model for Things {
@@ -32,9 +33,9 @@ impl Model for Things {
 
     ghost Value = { Numbered };
 
-    ghost view = { λ t. record { plan = t.build; marks = t.marks; spots = t.spots.items; numbers = t.numbers.items } };
+    ghost view = { λ t. record { plan = t.build; marks = t.marks; spots = t.spots.items; cells = t.numbers } };
 
-    ghost invariant = { λ t. IsNumbered (record { plan = t.build; marks = t.marks; spots = t.spots.items; numbers = t.numbers.items }) };
+    ghost invariant = { λ t. IsNumbered (record { plan = t.build; marks = t.marks; spots = t.spots.items; cells = t.numbers }) };
 }
 
 fn is_thing(block: Block) -> bool
@@ -48,33 +49,18 @@ fn number_cell(
     build: &Build,
     cell: usize,
     spots: &mut Vec<Pos>,
-    numbers: &mut Vec<u32>,
+    numbers: &mut CellNumbers,
 ) -> Result<(), NoMemory>
     requires inside { cell < volume build.now }
-    requires below { IsNumberedTo build.now cell spots.old.items numbers.old.items }
-    ensures { OnOk result (IsNumberedTo build.now (cell + 1) spots.new.items numbers.new.items) }
+    requires below { IsNumberedTo build.now cell spots.old.items numbers.old }
+    ensures { OnOk result (IsNumberedTo build.now (cell + 1) spots.new.items numbers.new) }
 {
     let _ = build.cells();
     if is_thing(build.block_in(cell)) {
         spots.push(build.place(cell))?;
-        numbers.push(spots.len() as u32)?;
-    } else {
-        numbers.push(0)?;
+        numbers.push(cell)?;
     }
     Ok(())
-}
-
-// The number that a cell has.
-fn number_in(numbers: &[u32], cell: usize) -> Option<usize>
-    requires { cell < length numbers.now }
-    ensures { result ≡ less_one (slice_index numbers.now cell) }
-{
-    let number = numbers[cell];
-    if number == 0 {
-        None
-    } else {
-        Some(number as usize - 1)
-    }
 }
 
 impl Things {
@@ -85,7 +71,7 @@ impl Things {
         let build = build.copy()?;
         let marks = marks.copy()?;
         let mut spots = Vec::new(alloc);
-        let mut numbers = Vec::with_capacity(alloc, build.cells())?;
+        let mut numbers = CellNumbers::new(alloc, build.cells())?;
         for cell in 0..build.cells() {
             number_cell(&build, cell, &mut spots, &mut numbers)?;
         }
@@ -130,7 +116,7 @@ impl Things {
         ensures below { IfSome result (λ number. number < length self.now.spots) }
     {
         match self.build.cell(pos) {
-            Some(cell) => number_in(&self.numbers, cell),
+            Some(cell) => self.numbers.get(cell),
             None => None,
         }
     }

@@ -9,6 +9,6 @@ invariant_of-result c =
     let all : c.loop-cell.cell ≡ volume b = omega arith in
     record {
       whole = c.cells.ensures.whole;
-      to = subst (λ (i : ℕ). IsNumberedTo b i c.loop-cell.spots.items c.loop-cell.numbers.items) all
-          (subst (λ (d : Plan). IsNumberedTo d c.loop-cell.cell c.loop-cell.spots.items c.loop-cell.numbers.items) (sym c.in_ok-build.ensures) c.loop-cell.invariant);
+      to = subst (λ (i : ℕ). IsNumberedTo b i c.loop-cell.spots.items c.loop-cell.numbers) all
+          (subst (λ (d : Plan). IsNumberedTo d c.loop-cell.cell c.loop-cell.spots.items c.loop-cell.numbers) (sym c.in_ok-build.ensures) c.loop-cell.invariant);
     }
