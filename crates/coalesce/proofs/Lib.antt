@@ -4,3 +4,4 @@ pub mod PairSteps
 pub mod TriedSteps
 pub mod WaitSteps
 pub mod SweepSteps
+pub mod SourceSteps

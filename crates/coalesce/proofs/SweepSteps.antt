@@ -7,8 +7,8 @@ use Rattle.circuit.specs.Circuit.{Among}
 use Rattle.graph.specs.Graph.{Nodes}
 use Rattle.graph.specs.Edits.{merge}
 use Rattle.graph.specs.Sound.{IsSound}
-use Rattle.graph.specs.Steps.{AreTwins}
-use Rattle.pass_frame.specs.Frame.{Reaches, Stays, Goes}
+use Rattle.graph.specs.Steps.{AreTwins, Coalesces}
+use Rattle.pass_frame.specs.Frame.{Reaches, Stays, Goes, IsDone}
 use Rattle.pass_frame.specs.Rounds.{Rounds}
 use Rattle.pass_frame.proofs.FrameSteps.{reaches_append}
 use Rattle.coalesce.specs.CoalesceLaws.{coalesce_sound}
@@ -205,3 +205,10 @@ pub sweep_sound : {a b : ℕ} (old new : Nodes) → IsSound old → Sweep a b ol
 sweep_sound old _ sound (Ends h) = sound
 sweep_sound old new sound (Takes {keep = keep} {gone = gone} f r) =
     sweep_sound (merge old keep gone) new (coalesce_sound old (merge old keep gone) sound (record { keep = keep; gone = gone; earlier = f.earlier; twins = f.twins; after = refl })) r
+
+-- where no two are twins there is nothing to do
+pub none_done : (g : Nodes) → ((a b : ℕ) → a < b → AreTwins g a b → ⊥) → IsDone Coalesces g
+none_done g none new step = none step.keep step.gone step.earlier step.twins
+
+pub none_rounds : (g : Nodes) → ((a b : ℕ) → a < b → AreTwins g a b → ⊥) → Rounds SweepsOnce g g
+none_rounds g none = record { turns = Stays; rests = Ends (λ c d less w. absurd (none c d less w)) }

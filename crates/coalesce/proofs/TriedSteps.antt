@@ -34,7 +34,7 @@ use Rattle.coalesce.proofs.FanSteps.{among_at, each_more, key_listed, item_at}
 use Rattle.coalesce.proofs.PairSteps.{only_is}
 
 -- a light Back link that stands alone is the only one
-only_one : (links : List Link) (link : Link) → links ≡ link ∷ [] → link.group ≡ Back → link.weight < 15 → only_link links ≡ Some link
+pub only_one : (links : List Link) (link : Link) → links ≡ link ∷ [] → link.group ≡ Back → link.weight < 15 → only_link links ≡ Some link
 only_one links link e b light = rw (e, b, lt-ltb link.weight 15 light) refl
 
 look_by-here : (g : Nodes) (node : Node) (link : Link) → node.links ≡ link ∷ [] → link.group ≡ Back → link.weight < 15 → can_fold node.kind ≡ true →

@@ -8,6 +8,7 @@ pub mod FanOuts
 pub mod Tried
 pub mod Pairs
 pub mod Looks
+pub mod Sources
 pub mod Sweeps
 pub mod Waiting
 pub mod Order

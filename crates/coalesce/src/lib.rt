@@ -16,6 +16,7 @@ mod fan_outs;
 pub mod laws;
 mod looks;
 mod pairs;
+mod sources;
 mod sweep;
 #[cfg(test)]
 mod tests;

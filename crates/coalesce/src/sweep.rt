@@ -17,6 +17,7 @@ ghost use Rattle.coalesce.specs.Waiting.{Waits, AreFew, TwinsWait, OthersWait};
 use crate::fan_outs::FanOuts;
 use crate::looks::{Groups, look_of};
 use crate::pairs::are_twins;
+use crate::sources::some_are_shared;
 use crate::waiting::Waiting;
 use graph::{Graph, NodeKey};
 use node_arena::Key;
@@ -26,7 +27,8 @@ use std::alloc::Global;
 // Takes twins until there are none, and says whether it took any.
 //
 // It goes over the nodes by rising number, round after round, but only over those that may have a
-// twin above them: at first all, and then those that read a node that took a twin.
+// twin above them: at first all, and then those that read a node that took a twin. Where no two of
+// them read one node, there are none.
 pub fn take_all(graph: &mut Graph) -> Result<bool, NoMemory>
     ensures ran { Ran Coalesces graph.old.nodes result graph.new.nodes }
     ensures done { OnOk result (IsDone Coalesces graph.new.nodes) }
@@ -34,6 +36,9 @@ pub fn take_all(graph: &mut Graph) -> Result<bool, NoMemory>
 {
     let keys = graph.keys()?;
     let alloc = *keys.allocator();
+    if !some_are_shared(alloc, graph, &keys)? {
+        return Ok(false);
+    }
     let mut known = Known::of(alloc, graph, &keys)?;
     let mut waiting = Waiting::new(alloc);
     waiting.add_all(graph, &keys)?;

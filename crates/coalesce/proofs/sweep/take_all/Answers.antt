@@ -5,7 +5,7 @@ use Rattle.graph.specs.Steps.{Coalesces}
 use Rattle.pass_frame.specs.Frame.{Stays}
 use Rattle.pass_frame.proofs.Sweeps.{took_ran}
 use Rattle.coalesce.specs.Sweeps.{Sweep}
-use Rattle.coalesce.proofs.SweepSteps.{sweeping_first, sweeping_on, sweeping_ends}
+use Rattle.coalesce.proofs.SweepSteps.{sweeping_first, sweeping_on, sweeping_ends, none_done, none_rounds}
 use Rattle.coalesce.proofs.TriedSteps.{ran_err, took_turn, twins_reached, turn_falls, none_left, others_wait, all_wait}
 use Rattle.coalesce.proofs.WaitSteps.{few_left, few_none}
 use Rattle.coalesce.proofs.sweep.take_all.Goals as goal
@@ -25,7 +25,7 @@ returns-in_err-add_all-clause-ran c = ran_err c.args.graph.now.nodes c.args.grap
 pub loop-number-init : goal.loop-number-init
 loop-number-init c = record {
   known = c.in_ok-known.ensures;
-  wait = all_wait c.args.graph.now.nodes c.add_all.new.self.numbers c.deref-2.result.now (c.deref-2.ensures.value ∙ c.in_ok-keys.ensures) c.in_ok-add_all.ensures.all;
+  wait = all_wait c.args.graph.now.nodes c.add_all.new.self.numbers c.deref-3.result.now (c.deref-3.ensures.value ∙ c.in_ok-keys.ensures) c.in_ok-add_all.ensures.all;
   few = c.in_ok-add_all.ensures.few;
   took = refl;
   sweeping = sweeping_first c.args.graph.now.nodes;
@@ -66,3 +66,16 @@ returns-clause-done c = none_left c.loop-number.graph.nodes c.loop-number.waitin
 
 pub returns-clause-turn : goal.returns-clause-turn
 returns-clause-turn c = sweeping_ends c.args.graph.now.nodes c.loop-number.graph.nodes c.loop-number.waiting.numbers c.loop-number.place c.loop-number.invariant.sweeping c.loop-number.invariant.wait c.in_default.ensures.none
+
+pub returns-in_err-some_are_shared-clause-ran : goal.returns-in_err-some_are_shared-clause-ran
+returns-in_err-some_are_shared-clause-ran c =
+    ran_err c.args.graph.now.nodes c.args.graph.now.nodes c.from_residual-in_err-some_are_shared.result c.from_residual-in_err-some_are_shared.ensures.0 Stays
+
+pub returns-then-not-branch-clause-ran : goal.returns-then-not-branch-clause-ran
+returns-then-not-branch-clause-ran c = (none_done c.args.graph.now.nodes (c.in_ok-some_are_shared.ensures c.if-not-branch.true), refl)
+
+pub returns-then-not-branch-clause-done : goal.returns-then-not-branch-clause-done
+returns-then-not-branch-clause-done c = none_done c.args.graph.now.nodes (c.in_ok-some_are_shared.ensures c.if-not-branch.true)
+
+pub returns-then-not-branch-clause-turn : goal.returns-then-not-branch-clause-turn
+returns-then-not-branch-clause-turn c = none_rounds c.args.graph.now.nodes (c.in_ok-some_are_shared.ensures c.if-not-branch.true)
