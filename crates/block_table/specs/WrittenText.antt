@@ -1,5 +1,5 @@
 -- The text of a block, and which blocks have one.
-use Rattle.std.specs.Prelude.{ℕ, Bool, true, false, ◌&&◌, nat_lt, List, [], ◌∷◌, ◌++◌, slice_get, Option, Some, unwrap_or, codes}
+use Rattle.std.specs.Prelude.{ℕ, Bool, true, false, ◌&&◌, nat_lt, List, [], ◌∷◌, ◌++◌, slice_get, Option, Some, unwrap_or, codes, None}
 use Rattle.block_table.specs.declared.Side.{Side}
 use Rattle.block_table.specs.declared.Side.TheVariants.{Down, Up, North, South, West, East}
 use Rattle.block_table.specs.declared.Face.{Face}
@@ -11,7 +11,7 @@ use Rattle.block_table.specs.declared.SlabHalf.TheVariants.{Top, Bottom, Double}
 use Rattle.block_table.specs.declared.Block.{Block}
 use Rattle.block_table.specs.declared.Block.TheVariants.{Air, Inert, Slab, Wire, Torch, WallTorch, Repeater, Comparator, Lever, Button, Plate, RedstoneBlock, Lamp, Trapdoor, Container, Composter, Cauldron, Cake, Weighted, Note}
 use Rattle.block_table.specs.declared.names.Kind.{Kind}
-use Rattle.block_table.specs.declared.names.Kind.TheVariants.{Container as ContainerName, Inert as InertName, Button as ButtonName, Plate as PlateName, Weighted as WeightedName}
+use Rattle.block_table.specs.declared.names.Kind.TheVariants.{Air as AirName, Wire as WireName, Torch as TorchName, WallTorch as WallTorchName, Repeater as RepeaterName, Comparator as ComparatorName, Lever as LeverName, Button as ButtonName, Plate as PlateName, RedstoneBlock as RedstoneBlockName, Lamp as LampName, Trapdoor as TrapdoorName, Container as ContainerName, Composter as ComposterName, Cauldron as CauldronName, Cake as CakeName, Inert as InertName, Slab as SlabName, Weighted as WeightedName, Note as NoteName}
 use Rattle.block_table.specs.StateText.{Property, namespace}
 use Rattle.block_table.specs.BlockText.{numbers}
 use Rattle.block_table.specs.Table.{kind_at, name_at}
@@ -147,27 +147,125 @@ state_text block = namespace ++ (name_of block ++ bracketed (kept block))
 abbrev pub is_horizontal : Side → Bool
 is_horizontal Down = false
 is_horizontal Up = false
-is_horizontal _ = true
+is_horizontal North = true
+is_horizontal South = true
+is_horizontal West = true
+is_horizontal East = true
 
 abbrev pub is_inert : Option Kind → Bool
 is_inert (Some (InertName solid)) = true
-is_inert _ = false
+is_inert (Some AirName) = false
+is_inert (Some WireName) = false
+is_inert (Some TorchName) = false
+is_inert (Some WallTorchName) = false
+is_inert (Some RepeaterName) = false
+is_inert (Some ComparatorName) = false
+is_inert (Some LeverName) = false
+is_inert (Some ButtonName) = false
+is_inert (Some PlateName) = false
+is_inert (Some RedstoneBlockName) = false
+is_inert (Some LampName) = false
+is_inert (Some TrapdoorName) = false
+is_inert (Some (ContainerName slots solid)) = false
+is_inert (Some ComposterName) = false
+is_inert (Some (CauldronName water)) = false
+is_inert (Some CakeName) = false
+is_inert (Some SlabName) = false
+is_inert (Some WeightedName) = false
+is_inert (Some NoteName) = false
+is_inert None = false
 
 abbrev pub is_button : Option Kind → Bool
 is_button (Some ButtonName) = true
-is_button _ = false
+is_button (Some AirName) = false
+is_button (Some WireName) = false
+is_button (Some TorchName) = false
+is_button (Some WallTorchName) = false
+is_button (Some RepeaterName) = false
+is_button (Some ComparatorName) = false
+is_button (Some LeverName) = false
+is_button (Some PlateName) = false
+is_button (Some RedstoneBlockName) = false
+is_button (Some LampName) = false
+is_button (Some TrapdoorName) = false
+is_button (Some (ContainerName slots solid)) = false
+is_button (Some ComposterName) = false
+is_button (Some (CauldronName water)) = false
+is_button (Some CakeName) = false
+is_button (Some (InertName solid)) = false
+is_button (Some SlabName) = false
+is_button (Some WeightedName) = false
+is_button (Some NoteName) = false
+is_button None = false
 
 abbrev pub is_plate : Option Kind → Bool
 is_plate (Some PlateName) = true
-is_plate _ = false
+is_plate (Some AirName) = false
+is_plate (Some WireName) = false
+is_plate (Some TorchName) = false
+is_plate (Some WallTorchName) = false
+is_plate (Some RepeaterName) = false
+is_plate (Some ComparatorName) = false
+is_plate (Some LeverName) = false
+is_plate (Some ButtonName) = false
+is_plate (Some RedstoneBlockName) = false
+is_plate (Some LampName) = false
+is_plate (Some TrapdoorName) = false
+is_plate (Some (ContainerName slots solid)) = false
+is_plate (Some ComposterName) = false
+is_plate (Some (CauldronName water)) = false
+is_plate (Some CakeName) = false
+is_plate (Some (InertName solid)) = false
+is_plate (Some SlabName) = false
+is_plate (Some WeightedName) = false
+is_plate (Some NoteName) = false
+is_plate None = false
 
 abbrev pub is_container : Option Kind → Bool
 is_container (Some (ContainerName slots solid)) = true
-is_container _ = false
+is_container (Some AirName) = false
+is_container (Some WireName) = false
+is_container (Some TorchName) = false
+is_container (Some WallTorchName) = false
+is_container (Some RepeaterName) = false
+is_container (Some ComparatorName) = false
+is_container (Some LeverName) = false
+is_container (Some ButtonName) = false
+is_container (Some PlateName) = false
+is_container (Some RedstoneBlockName) = false
+is_container (Some LampName) = false
+is_container (Some TrapdoorName) = false
+is_container (Some ComposterName) = false
+is_container (Some (CauldronName water)) = false
+is_container (Some CakeName) = false
+is_container (Some (InertName solid)) = false
+is_container (Some SlabName) = false
+is_container (Some WeightedName) = false
+is_container (Some NoteName) = false
+is_container None = false
 
 abbrev pub is_weighted : Option Kind → Bool
 is_weighted (Some WeightedName) = true
-is_weighted _ = false
+is_weighted (Some AirName) = false
+is_weighted (Some WireName) = false
+is_weighted (Some TorchName) = false
+is_weighted (Some WallTorchName) = false
+is_weighted (Some RepeaterName) = false
+is_weighted (Some ComparatorName) = false
+is_weighted (Some LeverName) = false
+is_weighted (Some ButtonName) = false
+is_weighted (Some PlateName) = false
+is_weighted (Some RedstoneBlockName) = false
+is_weighted (Some LampName) = false
+is_weighted (Some TrapdoorName) = false
+is_weighted (Some (ContainerName slots solid)) = false
+is_weighted (Some ComposterName) = false
+is_weighted (Some (CauldronName water)) = false
+is_weighted (Some CakeName) = false
+is_weighted (Some (InertName solid)) = false
+is_weighted (Some SlabName) = false
+is_weighted (Some NoteName) = false
+is_weighted None = false
 
 -- whether some text means this block: its numbers are in their ranges, its facing is horizontal, and its name is one of its kind
 abbrev pub is_listed : Block → Bool

@@ -31,7 +31,21 @@ pub fn is_solid(block: Block) -> bool
         Block::Slab { name, half } => half == SlabHalf::Double && is_slab(name),
         Block::Container { name } => is_solid_container(name),
         Block::Lamp { .. } | Block::Note { .. } => true,
-        _ => false,
+        Block::Air
+        | Block::Wire { .. }
+        | Block::Torch { .. }
+        | Block::WallTorch { .. }
+        | Block::Repeater { .. }
+        | Block::Comparator { .. }
+        | Block::Lever { .. }
+        | Block::Button { .. }
+        | Block::Plate { .. }
+        | Block::RedstoneBlock
+        | Block::Trapdoor { .. }
+        | Block::Composter { .. }
+        | Block::Cauldron { .. }
+        | Block::Cake { .. }
+        | Block::Weighted { .. } => false,
     }
 }
 
@@ -41,7 +55,25 @@ pub fn slots(block: Block) -> u8
 {
     match block {
         Block::Container { name } => slots_of(name),
-        _ => 0,
+        Block::Air
+        | Block::Inert { .. }
+        | Block::Slab { .. }
+        | Block::Wire { .. }
+        | Block::Torch { .. }
+        | Block::WallTorch { .. }
+        | Block::Repeater { .. }
+        | Block::Comparator { .. }
+        | Block::Lever { .. }
+        | Block::Button { .. }
+        | Block::Plate { .. }
+        | Block::RedstoneBlock
+        | Block::Lamp { .. }
+        | Block::Trapdoor { .. }
+        | Block::Composter { .. }
+        | Block::Cauldron { .. }
+        | Block::Cake { .. }
+        | Block::Weighted { .. }
+        | Block::Note { .. } => 0,
     }
 }
 
@@ -50,7 +82,28 @@ fn is_solid_inert(name: u16) -> bool
 {
     match kind_at(name) {
         Some(Kind::Inert { solid }) => solid,
-        _ => false,
+        Some(
+            Kind::Air
+            | Kind::Wire
+            | Kind::Torch
+            | Kind::WallTorch
+            | Kind::Repeater
+            | Kind::Comparator
+            | Kind::Lever
+            | Kind::Button
+            | Kind::Plate
+            | Kind::RedstoneBlock
+            | Kind::Lamp
+            | Kind::Trapdoor
+            | Kind::Container { .. }
+            | Kind::Composter
+            | Kind::Cauldron { .. }
+            | Kind::Cake
+            | Kind::Slab
+            | Kind::Weighted
+            | Kind::Note,
+        )
+        | None => false,
     }
 }
 
@@ -59,7 +112,28 @@ fn is_solid_container(name: u16) -> bool
 {
     match kind_at(name) {
         Some(Kind::Container { solid, .. }) => solid,
-        _ => false,
+        Some(
+            Kind::Air
+            | Kind::Wire
+            | Kind::Torch
+            | Kind::WallTorch
+            | Kind::Repeater
+            | Kind::Comparator
+            | Kind::Lever
+            | Kind::Button
+            | Kind::Plate
+            | Kind::RedstoneBlock
+            | Kind::Lamp
+            | Kind::Trapdoor
+            | Kind::Composter
+            | Kind::Cauldron { .. }
+            | Kind::Cake
+            | Kind::Inert { .. }
+            | Kind::Slab
+            | Kind::Weighted
+            | Kind::Note,
+        )
+        | None => false,
     }
 }
 
@@ -68,7 +142,28 @@ fn is_slab(name: u16) -> bool
 {
     match kind_at(name) {
         Some(Kind::Slab) => true,
-        _ => false,
+        Some(
+            Kind::Air
+            | Kind::Wire
+            | Kind::Torch
+            | Kind::WallTorch
+            | Kind::Repeater
+            | Kind::Comparator
+            | Kind::Lever
+            | Kind::Button
+            | Kind::Plate
+            | Kind::RedstoneBlock
+            | Kind::Lamp
+            | Kind::Trapdoor
+            | Kind::Container { .. }
+            | Kind::Composter
+            | Kind::Cauldron { .. }
+            | Kind::Cake
+            | Kind::Inert { .. }
+            | Kind::Weighted
+            | Kind::Note,
+        )
+        | None => false,
     }
 }
 
@@ -77,6 +172,27 @@ fn slots_of(name: u16) -> u8
 {
     match kind_at(name) {
         Some(Kind::Container { slots, .. }) => slots,
-        _ => 0,
+        Some(
+            Kind::Air
+            | Kind::Wire
+            | Kind::Torch
+            | Kind::WallTorch
+            | Kind::Repeater
+            | Kind::Comparator
+            | Kind::Lever
+            | Kind::Button
+            | Kind::Plate
+            | Kind::RedstoneBlock
+            | Kind::Lamp
+            | Kind::Trapdoor
+            | Kind::Composter
+            | Kind::Cauldron { .. }
+            | Kind::Cake
+            | Kind::Inert { .. }
+            | Kind::Slab
+            | Kind::Weighted
+            | Kind::Note,
+        )
+        | None => 0,
     }
 }

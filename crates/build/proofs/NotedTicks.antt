@@ -1,12 +1,11 @@
 -- Places that are noted for ticks, when a tick is added or taken out.
-use Rattle.std.proofs.Common.{◌≡◌, Bool, true, false, List, [], ◌∷◌, ◌++◌, refl, sym, ◌∙◌, ap, inl, inr}
-use Rattle.std.specs.Prelude.{◌||◌}
-use Rattle.std.proofs.lemmas.Bool.{cases_Bool, or_parts, or_from}
+use Rattle.std.proofs.Common.{◌≡◌, false, List, [], ◌∷◌, ◌++◌, refl, sym, ◌∙◌}
+use Rattle.std.proofs.lemmas.Bool.{or_parts, or_from}
 use Rattle.std.proofs.lemmas.List.Folds.{list_any-append}
 use Rattle.circuit.specs.declared.Pos.{Pos}
 use Rattle.build.specs.declared.Pending.{Pending}
-use Rattle.build.specs.Place.{same_place, is_before}
-use Rattle.build.specs.SamePlace.{place_one, same_place_either}
+use Rattle.build.specs.Place.{same_place}
+use Rattle.build.specs.SamePlace.{same_place_either}
 use Rattle.build.specs.Plan.{is_pending}
 use Rattle.build.specs.Marks.{is_marked, with_mark}
 use Rattle.build.specs.MarkLaws.{marked-with_mark}

@@ -328,7 +328,25 @@ impl Build {
     {
         match self.at(pos) {
             Block::Comparator { .. } => self.level(pos),
-            _ => 0,
+            Block::Air
+            | Block::Inert { .. }
+            | Block::Slab { .. }
+            | Block::Wire { .. }
+            | Block::Torch { .. }
+            | Block::WallTorch { .. }
+            | Block::Repeater { .. }
+            | Block::Lever { .. }
+            | Block::Button { .. }
+            | Block::Plate { .. }
+            | Block::RedstoneBlock
+            | Block::Lamp { .. }
+            | Block::Trapdoor { .. }
+            | Block::Container { .. }
+            | Block::Composter { .. }
+            | Block::Cauldron { .. }
+            | Block::Cake { .. }
+            | Block::Weighted { .. }
+            | Block::Note { .. } => 0,
         }
     }
 
@@ -342,7 +360,22 @@ impl Build {
             Block::Composter { level } => Some(level),
             Block::Cauldron { level, .. } => Some(level),
             Block::Cake { bites } => Some(14 - 2 * bites),
-            _ => None,
+            Block::Air
+            | Block::Inert { .. }
+            | Block::Slab { .. }
+            | Block::Wire { .. }
+            | Block::Torch { .. }
+            | Block::WallTorch { .. }
+            | Block::Repeater { .. }
+            | Block::Comparator { .. }
+            | Block::Lever { .. }
+            | Block::Button { .. }
+            | Block::Plate { .. }
+            | Block::RedstoneBlock
+            | Block::Lamp { .. }
+            | Block::Trapdoor { .. }
+            | Block::Weighted { .. }
+            | Block::Note { .. } => None,
         }
     }
 

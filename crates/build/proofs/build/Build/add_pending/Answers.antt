@@ -1,6 +1,5 @@
-use Rattle.std.proofs.Common.{◌≡◌, true, false, sym, ap, subst, ◌∙◌, List}
+use Rattle.std.proofs.Common.{◌≡◌, true, false, sym, ap, subst, ◌∙◌}
 use Rattle.std.proofs.lemmas.Bool.{and_from}
-use Rattle.build.specs.declared.Pending.{Pending}
 use Rattle.build.specs.Plan.{Plan, IsWhole, is_ticking, is_timely, is_pending, block_at}
 use Rattle.build.proofs.EditedFields.{with_ticks, pending_fields}
 use Rattle.build.proofs.WholeEdits.{whole_with_pending}

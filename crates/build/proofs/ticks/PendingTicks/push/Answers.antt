@@ -1,4 +1,4 @@
-use Rattle.std.proofs.Common.{List, [], ◌∷◌, ◌++◌, sym, subst}
+use Rattle.std.proofs.Common.{List, sym, subst}
 use Rattle.circuit.specs.declared.Pos.{Pos}
 use Rattle.build.specs.declared.Pending.{Pending}
 use Rattle.build.specs.Marks.{with_mark}
