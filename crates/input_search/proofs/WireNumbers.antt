@@ -1,6 +1,6 @@
 -- The wires of a build by their numbers.
-use Rattle.std.proofs.Common.{◌≡◌, ℕ, zero, suc, ◌+◌, ◌<◌, ◌≤◌, Bool, true, List, [], ◌∷◌, length, get_or, refl, sym, ◌∙◌, ap, subst, arith, inl, inr, eq-eqb, eqb-true}
-use Rattle.std.specs.Prelude.{All, AllPairs, Contains}
+use Rattle.std.proofs.Common.{◌≡◌, ℕ, zero, suc, ◌+◌, ◌<◌, ◌≤◌, Bool, true, List, [], ◌∷◌, Option, Some, None, length, get_or, refl, sym, ◌∙◌, ap, subst, arith, inl, inr, eq-eqb, eqb-true}
+use Rattle.std.specs.Prelude.{All, AllPairs, Contains, take, option_map, ◌==◌}
 use Rattle.std.specs.List.{range_with_len}
 use Rattle.std.proofs.Math.Dec.{eqb}
 use Rattle.std.proofs.lemmas.Bool.{cases_Bool, cases_lt, false≢true}
@@ -15,6 +15,7 @@ use Rattle.build.specs.Plan.{Plan, volume, cell_of, place_of}
 use Rattle.build.specs.Places.{inside, cell_below, place-cell, cell-place}
 use Rattle.wire_shape.specs.Shape.{wire_at}
 use Rattle.wire_shape.specs.WirePlaces.{wire_inside}
+use Rattle.cell_numbers.specs.Numbers.{number_in}
 use Rattle.input_search.specs.CellLists.{has_cell}
 use Rattle.input_search.specs.Wiring.{wire_cells, wire_place}
 use Rattle.input_search.proofs.CellOrder.{range_has}
@@ -39,6 +40,55 @@ among-has (x ∷ xs) i h = elim (cases_Bool (eqb i x)) [
 pub all-among : (P : ℕ → Type 0) (xs : List ℕ) → ((i : ℕ) → Among xs i → P i) → All P xs
 all-among P [] h = All-nil P
 all-among P (x ∷ xs) h = All-cons P x xs (h x (inl refl)) (all-among P xs (λ i k. h i (inr k)))
+
+-- the number of a cell is its index
+one-later : (x : ℕ) (xs : List ℕ) (cell number : ℕ) (found : Option ℕ) → ((n : ℕ) → found ≡ Some n → (n < length xs) × (get_or xs n 0 ≡ cell)) → option_map suc found ≡ Some number →
+    (number < suc (length xs)) × (get_or (x ∷ xs) number 0 ≡ cell)
+one-later x xs cell number None rest e = absurd (cc)
+one-later x xs cell number (Some n) rest e =
+    let same : suc n ≡ number = cc in
+    let found = rest n refl in
+    (omega (arith, same, found.0), ap (λ m. get_or (x ∷ xs) m 0) (sym same) ∙ found.1)
+
+pub number-there : (xs : List ℕ) (cell number : ℕ) → number_in xs cell ≡ Some number → (number < length xs) × (get_or xs number 0 ≡ cell)
+number-there [] cell number e = absurd (cc)
+number-there (x ∷ xs) cell number e = elim (cases_Bool (cell == x)) [
+  | inl h ↦
+      (let here : Some 0 ≡ Some number = rw h at e in
+      let same : 0 ≡ number = cc in
+      (omega (arith, same), ap (λ n. get_or (x ∷ xs) n 0) (sym same) ∙ sym (eqb-true cell x h)))
+  | inr h ↦ one-later x xs cell number (number_in xs cell) (number-there xs cell) (rw h at e)
+]
+
+not-later : (found : Option ℕ) → (found ≡ None → ⊥) → option_map suc found ≡ None → ⊥
+not-later None rest e = rest refl
+not-later (Some n) rest e = cc
+
+pub number-missed : (xs : List ℕ) (cell : ℕ) → Among xs cell → number_in xs cell ≡ None → ⊥
+number-missed [] cell a e = absurd a
+number-missed (x ∷ xs) cell a e = elim (cases_Bool (cell == x)) [
+  | inl h ↦ (let here : ◌≡◌ {A = Option ℕ} (Some 0) None = rw h at e in cc)
+  | inr h ↦ elim a [
+    | inl same ↦ false≢true (sym h ∙ eq-eqb cell x same)
+    | inr b ↦ not-later (number_in xs cell) (number-missed xs cell b) (rw h at e)
+  ]
+]
+
+-- the first cells of a list that rises are below the next one
+among-take : (xs : List ℕ) (index x : ℕ) → Among (take index xs) x → (j : ℕ) × (j < index) × (get_or xs j 0 ≡ x)
+among-take [] zero x a = absurd a
+among-take [] (suc index) x a = absurd a
+among-take (y ∷ xs) zero x a = absurd a
+among-take (y ∷ xs) (suc index) x a = elim a [
+  | inl e ↦ (zero, omega arith, sym e)
+  | inr b ↦ (let r = among-take xs index x b in (suc r.0, omega (arith, r.1), r.2))
+]
+
+pub first-below : (xs : List ℕ) (index : ℕ) → AllPairs (λ i j. i < j) xs → index < length xs → All (λ other. other < get_or xs index 0) (take index xs)
+first-below xs index rise inside = all-among (λ other. other < get_or xs index 0) (take index xs) (λ other a.
+    let r = among-take xs index other a in
+    let less : get_or xs r.0 0 < get_or xs index 0 = rise r.0 index 0 r.1 inside in
+    omega (arith, less, r.2))
 
 over_range : (k a n : ℕ) → k < a → Each (λ j. k < j) (range_with_len a n)
 over_range k a zero h = tt

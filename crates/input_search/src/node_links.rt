@@ -138,7 +138,7 @@ fn links_at(
     wiring: &Wiring,
     reader: Pos,
 ) -> Result<Vec<Link>, NoMemory>
-    requires wiring { IsWiring build.now wiring.now.cells.items wiring.now.feeders wiring.now.reads }
+    requires wiring { IsWiring build.now wiring.now.cells wiring.now.feeders wiring.now.reads }
     requires inside { IsTrue (in_box build.now reader) }
     ensures { IfOk result (λ links. links.items ≡ numbered_links build.now numbers.now reader) }
 {
@@ -167,7 +167,7 @@ fn links_of_node(
     graph: &Graph,
     number: u32,
 ) -> Result<Vec<Link>, NoMemory>
-    requires wiring { IsWiring build.now wiring.now.cells.items wiring.now.feeders wiring.now.reads }
+    requires wiring { IsWiring build.now wiring.now.cells wiring.now.feeders wiring.now.reads }
     requires spread { IsSpread build.now graph.now.nodes }
     ensures { IfOk result (λ links. AreLinks build.now numbers.now (node_place (node_at graph.now.nodes number)) links.items) }
 {

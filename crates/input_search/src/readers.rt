@@ -20,7 +20,7 @@ fn push_tap_links(
     wiring: &Wiring,
     tap: Tap,
 ) -> Result<(), NoMemory>
-    requires wiring { IsWiring build.now wiring.now.cells.items wiring.now.feeders wiring.now.reads }
+    requires wiring { IsWiring build.now wiring.now.cells wiring.now.feeders wiring.now.reads }
     requires tap { IsWireTap build.now tap }
     ensures { OnOk result (links.new.items ≡ links.old.items ++ tap_links build.now tap) }
 {
@@ -41,7 +41,7 @@ fn push_through(
     wiring: &Wiring,
     taps: &[Tap],
 ) -> Result<(), NoMemory>
-    requires wiring { IsWiring build.now wiring.now.cells.items wiring.now.feeders wiring.now.reads }
+    requires wiring { IsWiring build.now wiring.now.cells wiring.now.feeders wiring.now.reads }
     requires taps { All (IsWireTap build.now) taps.now }
     ensures { OnOk result (links.new.items ≡ links.old.items ++ through build.now taps.now) }
 {
@@ -60,7 +60,7 @@ pub(crate) fn push_back_links(
     wiring: &Wiring,
     reader: Pos,
 ) -> Result<(), NoMemory>
-    requires wiring { IsWiring build.now wiring.now.cells.items wiring.now.feeders wiring.now.reads }
+    requires wiring { IsWiring build.now wiring.now.cells wiring.now.feeders wiring.now.reads }
     requires inside { IsTrue (in_box build.now reader) }
     ensures { OnOk result (links.new.items ≡ links.old.items ++ back_links_of build.now reader (block_at build.now reader)) }
 {
@@ -78,7 +78,7 @@ pub(crate) fn push_side_links(
     wiring: &Wiring,
     reader: Pos,
 ) -> Result<(), NoMemory>
-    requires wiring { IsWiring build.now wiring.now.cells.items wiring.now.feeders wiring.now.reads }
+    requires wiring { IsWiring build.now wiring.now.cells wiring.now.feeders wiring.now.reads }
     requires inside { IsTrue (in_box build.now reader) }
     ensures { OnOk result (links.new.items ≡ links.old.items ++ side_links_of build.now reader (block_at build.now reader)) }
 {

@@ -63,10 +63,10 @@ fn add_distance(
     wires: &[u32],
     distance: u8,
 ) -> Result<(), NoMemory>
-    requires wiring { IsWiring build.now wiring.now.cells.items wiring.now.feeders wiring.now.reads }
-    requires wires { AreBelow (length wiring.now.cells.items) wires.now }
+    requires wiring { IsWiring build.now wiring.now.cells wiring.now.feeders wiring.now.reads }
+    requires wires { AreBelow (length wiring.now.cells) wires.now }
     requires linked { AreLinked build.now links.old.items linked.old }
-    ensures links { OnOk result (links.new.items ≡ with_distance build.now distance (flat_map (direct_places build.now) (wire_places build.now wiring.now.cells.items wires.now)) links.old.items) }
+    ensures links { OnOk result (links.new.items ≡ with_distance build.now distance (flat_map (direct_places build.now) (wire_places build.now wiring.now.cells wires.now)) links.old.items) }
     ensures linked { OnOk result (AreLinked build.now links.new.items linked.new) }
 {
     cells.clear();
@@ -120,7 +120,7 @@ pub(crate) fn find_links(
     wiring: &Wiring,
     wire: Pos,
 ) -> Result<(), NoMemory>
-    requires wiring { IsWiring build.now wiring.now.cells.items wiring.now.feeders wiring.now.reads }
+    requires wiring { IsWiring build.now wiring.now.cells wiring.now.feeders wiring.now.reads }
     requires wire { IsTrue (wire_at build.now wire) }
     ensures { OnOk result (search.new.links.items ≡ wire_links build.now wire) }
 {

@@ -1,6 +1,6 @@
 //! The wires of a build, with what feeds each and what each reads without dust.
 
-ghost use Rattle.std.specs.Prelude.{◌≡◌, ℕ, ◌<◌, ◌≤◌, [], ◌∷◌, ◌++◌, AllPairs, filter, IfOk, OnOk, IsTrue, length, slice_index};
+ghost use Rattle.std.specs.Prelude.{◌≡◌, ℕ, ◌<◌, ◌≤◌, [], ◌∷◌, ◌++◌, filter, IfOk, OnOk, IsTrue, length, slice_index};
 ghost use Rattle.build.specs.Plan.{volume, place_of};
 ghost use Rattle.wire_shape.specs.Shape.{wire_at};
 ghost use Rattle.wire_shape.specs.Feeders.{feeders};
@@ -10,6 +10,7 @@ ghost use Rattle.input_search.specs.Rows.{AreBelow};
 ghost use Rattle.input_search.specs.Wiring.{wire_cells, wire_place, wire_places, AreFeeders, AreReads, IsWiring};
 
 use build::Build;
+use cell_numbers::CellNumbers;
 use circuit::Pos;
 use number_rows::Rows;
 use rp_text::NoMemory;
@@ -20,18 +21,19 @@ use wiring::push_sources;
 /// The wires of a build. They are numbered in the order of places.
 #[derive(Drop)]
 pub(crate) struct Wiring {
-    pub(crate) cells: Vec<u32>,
+    pub(crate) cells: CellNumbers,
     pub(crate) feeders: Rows,
     pub(crate) reads: Rows,
 }
 
 impl Wiring {
     pub(crate) fn new(alloc: Global, build: &Build) -> Result<Wiring, NoMemory>
-        ensures { IfOk result (λ wiring. IsWiring build.now wiring.cells.items wiring.feeders wiring.reads) }
+        ensures { IfOk result (λ wiring. IsWiring build.now wiring.cells wiring.feeders wiring.reads) }
     {
-        let cells = wires_of(alloc, build)?;
-        let feeders = feeders_by_wire(alloc, build, &cells)?;
-        let reads = reads_by_wire(alloc, build, &cells)?;
+        let wires = wires_of(alloc, build)?;
+        let cells = numbers_of(alloc, build, &wires)?;
+        let feeders = feeders_by_wire(alloc, build, &wires, &cells)?;
+        let reads = reads_by_wire(alloc, build, &wires)?;
         Ok(Wiring {
             cells,
             feeders,
@@ -63,22 +65,33 @@ fn wires_of(alloc: Global, build: &Build) -> Result<Vec<u32>, NoMemory>
     Ok(cells)
 }
 
-// Where a cell stands in a rising list.
-fn number_of(cells: &[u32], cell: u32) -> u32
+// The numbers of these wires by their cells.
+fn numbers_of(alloc: Global, build: &Build, wires: &[u32]) -> Result<CellNumbers, NoMemory>
+    requires { wires.now ≡ wire_cells build.now }
+    ensures { IfOk result (λ cells. cells ≡ wires.now) }
+{
+    let mut cells = CellNumbers::new(alloc, build.cells())?;
+    for wire in wires {
+        cells.push(*wire as usize)?;
+    }
+    Ok(cells)
+}
+
+// Where a cell stands in a list that has it.
+fn number_of(cells: &CellNumbers, cell: u32) -> u32
     requires few { length cells.now ≤ 16777216 }
-    requires rising { AllPairs (λ i j. i < j) cells.now }
     requires listed { IsTrue (has_cell cells.now cell) }
     ensures below { result < length cells.now }
     ensures there { slice_index cells.now result ≡ cell }
 {
-    match cells.binary_search(&cell) {
-        Ok(number) => number as u32,
-        Err(_) => unreachable!(),
+    match cells.get(cell as usize) {
+        Some(number) => number as u32,
+        None => unreachable!(),
     }
 }
 
 /// The number of the wire at a place.
-pub(crate) fn wire_number(build: &Build, cells: &[u32], pos: Pos) -> u32
+pub(crate) fn wire_number(build: &Build, cells: &CellNumbers, pos: Pos) -> u32
     requires wires { cells.now ≡ wire_cells build.now }
     requires wire { IsTrue (wire_at build.now pos) }
     ensures below { result < length cells.now }
@@ -92,7 +105,12 @@ pub(crate) fn wire_number(build: &Build, cells: &[u32], pos: Pos) -> u32
 }
 
 // Appends the number of the wire at a place.
-fn push_number(row: &mut Vec<u32>, build: &Build, cells: &[u32], pos: Pos) -> Result<(), NoMemory>
+fn push_number(
+    row: &mut Vec<u32>,
+    build: &Build,
+    cells: &CellNumbers,
+    pos: Pos,
+) -> Result<(), NoMemory>
     requires wires { cells.now ≡ wire_cells build.now }
     requires wire { IsTrue (wire_at build.now pos) }
     requires below { AreBelow (length cells.now) row.old.items }
@@ -107,7 +125,7 @@ fn push_number(row: &mut Vec<u32>, build: &Build, cells: &[u32], pos: Pos) -> Re
 fn push_feeder_numbers(
     row: &mut Vec<u32>,
     build: &Build,
-    cells: &[u32],
+    cells: &CellNumbers,
     cell: u32,
 ) -> Result<(), NoMemory>
     requires wires { cells.now ≡ wire_cells build.now }
@@ -125,13 +143,19 @@ fn push_feeder_numbers(
 }
 
 // The numbers of the feeders of each wire.
-fn feeders_by_wire(alloc: Global, build: &Build, cells: &[u32]) -> Result<Rows, NoMemory>
-    requires { cells.now ≡ wire_cells build.now }
+fn feeders_by_wire(
+    alloc: Global,
+    build: &Build,
+    wires: &[u32],
+    cells: &CellNumbers,
+) -> Result<Rows, NoMemory>
+    requires wires { wires.now ≡ cells.now }
+    requires cells { cells.now ≡ wire_cells build.now }
     ensures { IfOk result (λ rows. AreFeeders build.now cells.now rows (length cells.now)) }
 {
     let mut rows = Rows::new(alloc);
     let mut row = Vec::new(alloc);
-    for cell in cells {
+    for cell in wires {
         row.clear();
         push_feeder_numbers(&mut row, build, cells, *cell)?;
         rows.push(&row)?;

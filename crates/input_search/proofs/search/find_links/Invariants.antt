@@ -8,5 +8,5 @@ abbrev pub invariant-loop-distance : goal.invariant-loop-distance
 invariant-loop-distance l = record {
   links : l.links.items ≡ links_below l.build l.fn.wire l.distance;
   linked : AreLinked l.build l.links.items l.linked;
-  at : IsAt l.build l.fn.wire l.wiring.cells.items l.distance l.wires.items l.met l.links.items;
+  at : IsAt l.build l.fn.wire l.wiring.cells l.distance l.wires.items l.met l.links.items;
 }

@@ -4,7 +4,7 @@ use Rattle.build.specs.Plan.{cell_of}
 use Rattle.build.specs.Places.{found-cell_of, found_inside}
 use Rattle.wire_shape.specs.WirePlaces.{wire_inside}
 use Rattle.input_search.specs.CellLists.{has_cell}
-use Rattle.input_search.proofs.WireNumbers.{cells-rise, cells-few, wire-listed, number-place}
+use Rattle.input_search.proofs.WireNumbers.{cells-few, wire-listed, number-place}
 use Rattle.input_search.proofs.wires.wire_number.Goals as goal
 
 none-some : (x : ℕ) → ◌≡◌ {A = Option ℕ} None (Some x) → ⊥
@@ -12,9 +12,6 @@ none-some x e = cc
 
 pub number_of-requires-clause-few : goal.number_of-requires-clause-few
 number_of-requires-clause-few c = omega (arith, cells-few c.args.build.now c.args.cells.now c.requires.wires, c.cells-cells.ensures.count, c.cells-cells.ensures.small)
-
-pub number_of-requires-clause-rising : goal.number_of-requires-clause-rising
-number_of-requires-clause-rising c = cells-rise c.args.build.now c.args.cells.now c.requires.wires
 
 pub number_of-requires-clause-listed : goal.number_of-requires-clause-listed
 number_of-requires-clause-listed c =
