@@ -1,7 +1,8 @@
 -- A cell that is looked for in its word.
-use Rattle.std.proofs.Common.{◌≡◌, ℕ, zero, suc, ◌+◌, ◌*◌, ◌/◌, ◌%◌, ◌^◌, ◌<◌, ◌≤◌, ◌==◌, ◌⊎◌, Bool, true, false, if◌then◌else◌, List, length, Some, None, refl, sym, ◌∙◌, ap, inl, inr, arith, length-append, count_ones}
+use Rattle.std.proofs.Common.{◌≡◌, ℕ, zero, suc, ◌+◌, ◌*◌, ◌/◌, ◌%◌, ◌^◌, ◌<◌, ◌≤◌, ◌==◌, ◌⊎◌, Bool, true, false, if◌then◌else◌, List, length, Option, Some, None, refl, sym, ◌∙◌, ap, inl, inr, arith, length-append, count_ones}
 use Rattle.std.specs.Int.{bit_at}
-use Rattle.std.proofs.lemmas.Bool.{cases_lt}
+use Rattle.std.specs.Prelude.{IfSome}
+use Rattle.std.proofs.lemmas.Bool.{cases_lt, cases_Bool}
 use Rattle.std.proofs.lemmas.Nat.{mod-pow-add, ones_cat, mod_below, ones_le_self}
 use Rattle.std.specs.Int.Count.{ones-ones}
 use Rattle.std.proofs.lemmas.Nat.Bits.{bit_at-lt}
@@ -9,7 +10,7 @@ use Rattle.std.proofs.Math.Pow.{pow_pos}
 use Rattle.cell_numbers.specs.Numbers.{number_in}
 use Rattle.cell_numbers.specs.Words.{word_in, has_bit, cells_below, cells_in, AreCounted}
 use Rattle.cell_numbers.specs.declared.Word.{Word}
-use Rattle.cell_numbers.proofs.Kept.{kept, kept-split, number-kept, number-outside}
+use Rattle.cell_numbers.proofs.Kept.{kept, kept-split, kept-few, number-kept, number-outside}
 
 pub bit_cases : (n i : ℕ) → (bit_at n i ≡ 0) ⊎ (bit_at n i ≡ 1)
 bit_cases n i = elim (cases_lt (bit_at n i) 1) [ inl low ↦ inl (omega arith) | inr high ↦ inr (omega (arith, bit_at-lt n i)) ]
@@ -68,3 +69,22 @@ found words count cell counted l =
 
 pub not_found : (words : List Word) (cell : ℕ) → length words ≤ cell / 32 → number_in (cells_in words) cell ≡ None
 not_found words cell l = number-outside (has_bit words) 0 (32 * length words) cell (inr (omega arith))
+
+-- a number is no more than its cell
+pub found-low : (words : List Word) (cell number : ℕ) → number_in (cells_in words) cell ≡ Some number → number ≤ cell
+found-low words cell number e = elim (cases_lt cell (32 * length words)) [
+  | inl within ↦
+      let is : (if has_bit words cell then Some (length (cells_below words cell)) else None) ≡ Some number =
+      sym (number-kept (has_bit words) 0 (32 * length words) cell cell (omega arith) within) ∙ e in
+      elim (cases_Bool (has_bit words cell)) [
+        | inl h ↦ (let one : ◌≡◌ {A = Option ℕ} (Some (length (cells_below words cell))) (Some number) = rw h at is in
+            let same : length (cells_below words cell) ≡ number = cc in
+            omega (arith, kept-few (has_bit words) 0 cell))
+        | inr h ↦ absurd (let none : ◌≡◌ {A = Option ℕ} None (Some number) = rw h at is in cc)
+      ]
+  | inr past ↦ absurd (let none : ◌≡◌ {A = Option ℕ} None (Some number) = sym (number-outside (has_bit words) 0 (32 * length words) cell (inr (omega arith))) ∙ e in cc)
+]
+
+pub low : (words : List Word) (cell : ℕ) (o : Option ℕ) → o ≡ number_in (cells_in words) cell → IfSome o (λ (number : ℕ). number ≤ cell)
+low words cell None e = tt
+low words cell (Some number) e = found-low words cell number (sym e)

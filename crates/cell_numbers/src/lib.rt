@@ -1,7 +1,7 @@
 //! The numbers of the cells of a rising list, in two bits for each cell.
 #![tactic(auto)]
 
-ghost use Rattle.std.specs.Prelude.{◌≡◌, ◌+◌, ◌%◌, ◌^◌, ◌<◌, ◌==◌, [], ◌∷◌, ◌++◌, All, None, Some, OnOk, OnErr, IfOk, count_ones, if◌then◌else◌, length, set, vec_len};
+ghost use Rattle.std.specs.Prelude.{◌≡◌, ◌+◌, ◌%◌, ◌^◌, ◌<◌, ◌≤◌, ◌==◌, [], ◌∷◌, ◌++◌, All, None, Some, OnOk, OnErr, IfOk, IfSome, count_ones, if◌then◌else◌, length, set, vec_len};
 ghost use Rattle.std.specs.Int.{bit_at};
 ghost use Rattle.cell_numbers.specs.Numbers.{number_in};
 ghost use Rattle.cell_numbers.specs.Words.{with_bit, word_in};
@@ -92,7 +92,8 @@ impl CellNumbers {
 
     /// The number of a cell, if it is listed.
     pub fn get(&self, cell: usize) -> Option<usize>
-        ensures { result ≡ number_in self.now cell }
+        ensures number { result ≡ number_in self.now cell }
+        ensures low { IfSome result (λ number. number ≤ cell) }
     {
         match self.words.get(cell / CELLS) {
             Some(word) => number_of(*word, (cell % CELLS) as u32),

@@ -1,50 +1,59 @@
 -- Numbers of nodes by cells, one node more.
-use Rattle.std.proofs.Common.{◌≡◌, ◌≢◌, ℕ, ◌+◌, ◌<◌, true, false, List, length, set, Option, Some, None, refl, sym, ◌∙◌, ap, inl, inr, arith}
-use Rattle.std.specs.Prelude.{is_some}
+use Rattle.std.proofs.Common.{◌≡◌, ℕ, ◌+◌, ◌<◌, true, List, [], ◌∷◌, ◌++◌, All, Option, Some, None, refl, sym, ◌∙◌, ap, subst, inl, inr, arith, length-append}
+use Rattle.std.specs.Prelude.{is_some, AllPairs}
+use Rattle.std.specs.Option.{option_map_or}
 use Rattle.std.proofs.lemmas.Bool.{cases_eq}
-use Rattle.std.proofs.lemmas.List.{get_or-set_same, get_or-set_other, length-set}
+use Rattle.std.proofs.lemmas.List.{get_or_append_left, get_or_push, get_or_default}
+use Rattle.std.proofs.lemmas.List.Elements.{All-from_get_or}
 use Rattle.circuit.specs.declared.Pos.{Pos}
-use Rattle.build.specs.Plan.{Plan, volume, in_box, cell_of, entry, found_cell}
-use Rattle.build.specs.Places.{entry-inside, cell_below, inside, found-is_some, found-cell_of}
+use Rattle.build.specs.Plan.{Plan, in_box, cell_of}
 use Rattle.graph.specs.Graph.{Nodes, node_at}
-use Rattle.input_search.specs.Numbers.{node_place, with_number, with_node, IsSpread, AreRanks}
+use Rattle.cell_numbers.specs.Numbers.{number_in}
+use Rattle.cell_numbers.proofs.Rising.{number-back}
+use Rattle.input_search.specs.Numbers.{node_place, IsSpread, AreThere, AreNodeCells, AreRanks}
 
-pub length-with_node : (b : Plan) (numbers : List ℕ) (place : Option Pos) (number : ℕ) → ((p : Pos) → place ≡ Some p → in_box b p ≡ true) → length (with_node b numbers place number) ≡ length numbers
-length-with_node b numbers None number h = refl
-length-with_node b numbers (Some p) number h = let here : in_box b p ≡ true = h p refl in rw here (length-set numbers (cell_of b p) number)
+pub record Placed (o : Option Pos) : Type 0 where
+  pub place : Pos
+  pub is : o ≡ Some place
 
-module _ (b : Plan) (g : Nodes) (spread : IsSpread b g) (n : ℕ) (numbers : List ℕ) (whole : length numbers ≡ volume b) (ranks : AreRanks b g n numbers) where
-  entry-put : (p q : Pos) → in_box b p ≡ true → in_box b q ≡ true → cell_of b p ≢ cell_of b q → entry b (set numbers (cell_of b q) n) 0 p ≡ entry b numbers 0 p
-  entry-put p q here there apart =
-      entry-inside b (set numbers (cell_of b q) n) 0 p here ∙ get_or-set_other numbers (cell_of b q) (cell_of b p) n 0 apart ∙ sym (entry-inside b numbers 0 p here)
+pub placed : (o : Option Pos) → is_some o ≡ true → Placed o
+placed None e = absurd (cc)
+placed (Some p) e = record { place = p; is = refl }
 
-  one_node : (place : Option Pos) → node_place (node_at g n) ≡ place → AreRanks b g (n + 1) (with_node b numbers place n)
-  one_node None e key p h there = elim (cases_eq key n) [
-    | inl same ↦ absurd (let f : ◌≡◌ {A = Option Pos} None (Some p) = sym e ∙ ap (λ (k : ℕ). node_place (node_at g k)) (sym same) ∙ there in cc)
-    | inr apart ↦ ranks key p (omega arith) there
-  ]
-  one_node (Some q) e key p h there =
-      let at_q : in_box b q ≡ true = spread.inside n q e in
-      let at_p : in_box b p ≡ true = spread.inside key p there in
-      let below : cell_of b q < length numbers = omega (arith, whole, cell_below b q (inside b q at_q)) in
-      rw at_q (elim (cases_eq key n) [
-        | inl same ↦
-            let is : ◌≡◌ {A = Option Pos} (Some p) (Some q) = sym there ∙ ap (λ (k : ℕ). node_place (node_at g k)) same ∙ e in
-            let one : p ≡ q = cc in
-            ap (λ (r : Pos). entry b (set numbers (cell_of b q) n) 0 r) one ∙ entry-inside b (set numbers (cell_of b q) n) 0 q at_q ∙ get_or-set_same numbers (cell_of b q) n 0 below ∙ sym same
-        | inr apart ↦
-            let less : key < n = omega arith in
-            let rises : cell_of b p < cell_of b q = spread.rise key n p q less there e in
-            entry-put p q at_p at_q (omega arith) ∙ ranks key p less there
-      ])
+module _ (b : Plan) (g : Nodes) (spread : IsSpread b g) (n : ℕ) (cells : List ℕ) (there : AreThere g n) (listed : AreNodeCells b g n cells) where
+  pub all_below : (p : Pos) → node_place (node_at g n) ≡ Some p → All (λ cell. cell < cell_of b p) cells
+  all_below p e = All-from_get_or (λ cell. cell < cell_of b p) cells 0 (λ key h.
+      let less : key < n = omega (arith, listed.whole) in
+      let q : Placed (node_place (node_at g key)) = placed (node_place (node_at g key)) (there key less) in
+      let rises : cell_of b q.place < cell_of b p = spread.rise key n q.place p less q.is e in
+      subst (λ (cell : ℕ). cell < cell_of b p) (sym (listed.each key q.place less q.is)) rises)
 
-  pub ranks_more : AreRanks b g (n + 1) (with_node b numbers (node_place (node_at g n)) n)
-  ranks_more = one_node (node_place (node_at g n)) refl
+  rising : AllPairs (λ i j. i < j) cells
+  rising i j d h k =
+      let second : j < n = omega (arith, listed.whole) in
+      let first : i < n = omega arith in
+      let p : Placed (node_place (node_at g i)) = placed (node_place (node_at g i)) (there i first) in
+      let q : Placed (node_place (node_at g j)) = placed (node_place (node_at g j)) (there j second) in
+      let rises : cell_of b p.place < cell_of b q.place = spread.rise i j p.place q.place h p.is q.is in
+      omega (arith, rises, listed.each i p.place first p.is, listed.each j q.place second q.is, get_or_default cells i d 0 (omega (arith, listed.whole)), get_or_default cells j d 0 k)
 
-pub put_found : (b : Plan) (numbers next : List ℕ) (p : Pos) (number here : ℕ) → Some here ≡ found_cell b p → next ≡ set numbers here number → next ≡ with_number b numbers p number
-put_found b numbers next p number here e added =
-    let within : in_box b p ≡ true = sym (found-is_some b p) ∙ ap is_some (sym e) in
-    added ∙ ap (λ (i : ℕ). set numbers i number) (found-cell_of b p here e) ∙ rw within refl
+  pub ranks : AreRanks b g n cells
+  ranks key p h e =
+      let here : in_box b p ≡ true = spread.inside key p e in
+      let is : number_in cells (cell_of b p) ≡ Some key = ap (number_in cells) (sym (listed.each key p h e)) ∙ number-back cells rising key 0 (omega (arith, listed.whole)) in
+      rw here (ap (λ (o : Option ℕ). option_map_or (λ (k : ℕ). k) o 0) is)
 
-pub put_none : (b : Plan) (numbers : List ℕ) (p : Pos) (number : ℕ) → None ≡ found_cell b p → numbers ≡ with_number b numbers p number
-put_none b numbers p number e = let without : in_box b p ≡ false = sym (found-is_some b p) ∙ ap is_some (sym e) in rw without refl
+pub one_more : (b : Plan) (g : Nodes) (n : ℕ) (cells : List ℕ) (p : Pos) → node_place (node_at g n) ≡ Some p → AreNodeCells b g n cells → AreNodeCells b g (n + 1) (cells ++ cell_of b p ∷ [])
+one_more b g n cells p e listed = record {
+  whole = omega (arith, length-append cells (cell_of b p ∷ []), listed.whole);
+  each = λ key q h f. elim (cases_eq key n) [
+    | inl same ↦
+        (let both : ◌≡◌ {A = Option Pos} (Some p) (Some q) = sym e ∙ ap (λ (k : ℕ). node_place (node_at g k)) (sym same) ∙ f in
+        let one : p ≡ q = cc in
+        get_or_push cells (cell_of b p) 0 key (listed.whole ∙ sym same) ∙ ap (cell_of b) one)
+    | inr apart ↦ (let less : key < n = omega arith in get_or_append_left cells (cell_of b p ∷ []) 0 key (omega (arith, listed.whole)) ∙ listed.each key q less f)
+  ];
+}
+
+pub none_listed : (b : Plan) (g : Nodes) → AreNodeCells b g 0 []
+none_listed b g = record { whole = refl; each = λ key p h e. absurd (omega arith) }

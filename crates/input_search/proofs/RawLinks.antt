@@ -8,7 +8,7 @@ use Rattle.std.proofs.lemmas.List.Sums.{length-filter, count_by-le-length}
 use Rattle.block_table.specs.declared.Block.TheVariants.{Air}
 use Rattle.circuit.specs.declared.Pos.{Pos}
 use Rattle.circuit.specs.Circuit.{EachBefore, Among}
-use Rattle.build.specs.Plan.{Plan, volume, in_box, cell_of, entry, places, block_at}
+use Rattle.build.specs.Plan.{Plan, volume, in_box, cell_of, places, block_at}
 use Rattle.build.specs.Places.{length-places, in_box-not_outside}
 use Rattle.build.specs.Marks.{is_marked}
 use Rattle.build.specs.Outputs.{is_component}
@@ -21,7 +21,7 @@ use Rattle.graph.specs.Links.{of_group, in_groups}
 use Rattle.graph.specs.RawNodes.{is_wire_block, has_node, bare_node, bare_nodes, node_places}
 use Rattle.input_search.specs.Added.{links_under, with_links, plain_lists, list_at, IsFitting, AreFilled}
 use Rattle.input_search.specs.Links.{From, back_links_of, side_links_of}
-use Rattle.input_search.specs.Numbers.{numbered, numbered_links, node_place, IsSpread, AreRanks, AreLinks, AreLists}
+use Rattle.input_search.specs.Numbers.{node_number, numbered, numbered_links, AreThere, node_place, IsSpread, AreRanks, AreLinks, AreLists}
 use Rattle.input_search.specs.Raw.{number_in, link_of, links_of, linked_node, raw, IsBare}
 use Rattle.input_search.proofs.AddSteps.{lives_below}
 use Rattle.input_search.proofs.Order.{IsLower, before-filter, before-pairs, cells-rise}
@@ -142,7 +142,7 @@ module _ (b : Plan) (marks : List Pos) where
     lives : (p : Pos) → Among ps p → Lives (bare_nodes b marks) (number_in ps p)
     lives p h = ap is_some (bare-number p h)
 
-    rank : (p : Pos) → Among ps p → entry b numbers 0 p ≡ number_in ps p
+    rank : (p : Pos) → Among ps p → node_number b numbers p ≡ number_in ps p
     rank p h = ranks (number_in ps p) p (lives_below (bare_nodes b marks) (number_in ps p) (lives p h)) (ap node_place (bare-number p h) ∙ ap (λ (q : Pos). Some q) (bare-pos p))
 
     numbered-links : (group : Group) (xs : List From) → ((l : From) → Among xs l → Among ps l.place) → map (numbered b numbers group) xs ≡ map (link_of ps group) xs
@@ -221,6 +221,9 @@ module _ (b : Plan) (marks : List Pos) where
 
 pub spread_bare : (b : Plan) (g : Nodes) → IsBare b g → IsSpread b g
 spread_bare b g bare = subst (IsSpread b) (sym bare.nodes) (spread b bare.marks)
+
+pub there_bare : (b : Plan) (g : Nodes) → IsBare b g → AreThere g (length g)
+there_bare b g bare = subst (λ (g : Nodes). AreThere g (length g)) (sym bare.nodes) (λ key h. ap is_some (place-at b bare.marks key (omega (arith, length-bare b bare.marks))))
 
 pub count_bare : (b : Plan) (g : Nodes) → IsBare b g → node_count g ≡ length g
 count_bare b g bare = subst (λ (g : Nodes). node_count g ≡ length g) (sym bare.nodes) (count b bare.marks)

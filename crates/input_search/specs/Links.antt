@@ -3,7 +3,7 @@ use Rattle.std.specs.Prelude.{ℕ, zero, suc, Bool, true, false, not, ◌&&◌, 
 use Rattle.std.specs.List.{flat_map, list_any}
 use Rattle.block_table.specs.declared.Side.TheVariants.{Down}
 use Rattle.block_table.specs.declared.Block.{Block}
-use Rattle.block_table.specs.declared.Block.TheVariants.{Wire, Torch, WallTorch, Repeater, Comparator, Lamp, Trapdoor, Note}
+use Rattle.block_table.specs.declared.Block.TheVariants.{Air, Inert, Slab, Wire, Torch, WallTorch, Repeater, Comparator, Lever, Button, Plate, RedstoneBlock, Lamp, Trapdoor, Container, Composter, Cauldron, Cake, Weighted, Note}
 use Rattle.block_table.specs.Facts.{opposite}
 use Rattle.circuit.specs.declared.Pos.{Pos}
 use Rattle.build.specs.Place.{sides, same_place}
@@ -67,10 +67,38 @@ back_links_of b p (Note powered) = through b (flat_map (back_taps b false p) sid
 back_links_of b p (Repeater delay facing powered) = through b (back_taps b true p facing)
 back_links_of b p (Comparator facing subtract) = if is_some (direct_at b p facing) then [] else through b (back_taps b true p facing)
 back_links_of b p (Wire north east south west power) = through b (Wired p ∷ [])
-back_links_of b p _ = []
+back_links_of b p Air = []
+back_links_of b p (Inert name) = []
+back_links_of b p (Slab name half) = []
+back_links_of b p (Lever face facing powered) = []
+back_links_of b p (Button name face facing powered) = []
+back_links_of b p (Plate name powered) = []
+back_links_of b p RedstoneBlock = []
+back_links_of b p (Container name) = []
+back_links_of b p (Composter filled) = []
+back_links_of b p (Cauldron water filled) = []
+back_links_of b p (Cake bites) = []
+back_links_of b p (Weighted name power) = []
 
 -- its Side links
 abbrev pub side_links_of : Plan → Pos → Block → List From
 side_links_of b p (Repeater delay facing powered) = through b (flat_map (side_taps b false p) (across facing))
 side_links_of b p (Comparator facing subtract) = through b (flat_map (side_taps b true p) (across facing))
-side_links_of b p _ = []
+side_links_of b p Air = []
+side_links_of b p (Inert name) = []
+side_links_of b p (Slab name half) = []
+side_links_of b p (Wire north east south west power) = []
+side_links_of b p (Torch lit) = []
+side_links_of b p (WallTorch facing lit) = []
+side_links_of b p (Lever face facing powered) = []
+side_links_of b p (Button name face facing powered) = []
+side_links_of b p (Plate name powered) = []
+side_links_of b p RedstoneBlock = []
+side_links_of b p (Lamp lit) = []
+side_links_of b p (Trapdoor facing top powered) = []
+side_links_of b p (Container name) = []
+side_links_of b p (Composter filled) = []
+side_links_of b p (Cauldron water filled) = []
+side_links_of b p (Cake bites) = []
+side_links_of b p (Weighted name power) = []
+side_links_of b p (Note powered) = []

@@ -1,13 +1,15 @@
 //! The links into the nodes of a graph.
 
-ghost use Rattle.std.specs.Prelude.{◌≡◌, ℕ, ◌<◌, ◌≤◌, ◌++◌, List, OnOk, OnErr, IfOk, IsTrue, length, map, slice_index, slice_set};
+ghost use Rattle.std.specs.Prelude.{◌≡◌, ℕ, ◌+◌, ◌^◌, ◌<◌, ◌≤◌, [], ◌∷◌, ◌++◌, All, List, OnOk, OnErr, IfOk, IsTrue, length, map};
 ghost use Rattle.circuit.specs.declared.Pos.{Pos};
-ghost use Rattle.build.specs.Plan.{in_box, entry};
+ghost use Rattle.std.specs.Option.{option_map_or};
+ghost use Rattle.build.specs.Plan.{in_box, cell_of};
+ghost use Rattle.cell_numbers.specs.Numbers.{number_in};
 ghost use Rattle.graph.specs.Graph.{node_at, Lives, spare_of, KeepsRoom};
 ghost use Rattle.graph.specs.RawNodes.{bare_nodes};
 ghost use Rattle.input_search.specs.Added.{plain_lists, list_at, IsFitting, AreFilled};
 ghost use Rattle.input_search.specs.Raw.{IsBare, raw};
-ghost use Rattle.input_search.specs.Numbers.{node_place, with_number, with_node, IsSpread, AreRanks, AreLinks, AreLists, numbered, numbered_links};
+ghost use Rattle.input_search.specs.Numbers.{node_place, node_number, IsSpread, AreThere, AreNodeCells, AreRanks, AreLinks, AreLists, numbered, numbered_links};
 ghost use Rattle.input_search.specs.Wiring.{IsWiring};
 
 use crate::add::add_all;
@@ -15,6 +17,7 @@ use crate::readers::{push_back_links, push_side_links};
 use crate::search::{Origin, Search};
 use crate::wires::Wiring;
 use build::Build;
+use cell_numbers::CellNumbers;
 use circuit::Pos;
 use graph::{Graph, Group, Link, NodeKey};
 use node_arena::Key;
@@ -32,60 +35,79 @@ fn place_of_node(graph: &Graph, key: NodeKey) -> Option<Pos>
     }
 }
 
-fn write(numbers: &mut Vec<u32>, index: usize, number: u32)
-    ensures { numbers.new.items ≡ slice_set numbers.old.items index number }
+// Lists the cell of a place behind those of places before it.
+fn list_place(numbers: &mut CellNumbers, build: &Build, pos: Pos) -> Result<(), NoMemory>
+    requires inside { IsTrue (in_box build.now pos) }
+    requires rising { All (λ cell. cell < cell_of build.now pos) numbers.old }
+    ensures { OnOk result (numbers.new ≡ numbers.old ++ cell_of build.now pos ∷ []) }
 {
-    if index < numbers.len() {
-        numbers[index] = number;
+    let _cells = build.cells();
+    match build.cell(pos) {
+        Some(cell) => numbers.push(cell)?,
+        None => unreachable!(),
+    }
+    Ok(())
+}
+
+// Lists the cell of the node of a number behind those of the nodes before it.
+fn number_node(
+    numbers: &mut CellNumbers,
+    build: &Build,
+    graph: &Graph,
+    number: u32,
+) -> Result<(), NoMemory>
+    requires spread { IsSpread build.now graph.now.nodes }
+    requires there { AreThere graph.now.nodes (number + 1) }
+    requires before { AreNodeCells build.now graph.now.nodes number numbers.old }
+    ensures { OnOk result (AreNodeCells build.now graph.now.nodes (number + 1) numbers.new) }
+{
+    match place_of_node(graph, Key::new(number)) {
+        Some(pos) => list_place(numbers, build, pos),
+        None => unreachable!(),
     }
 }
 
-fn put_number(numbers: &mut Vec<u32>, build: &Build, pos: Pos, number: u32)
-    ensures { numbers.new.items ≡ with_number build.now numbers.old.items pos number }
+// The cells in which the first nodes stand.
+fn numbers_of(
+    alloc: Global,
+    build: &Build,
+    graph: &Graph,
+    count: u32,
+) -> Result<CellNumbers, NoMemory>
+    requires spread { IsSpread build.now graph.now.nodes }
+    requires there { AreThere graph.now.nodes count }
+    ensures { IfOk result (λ numbers. AreRanks build.now graph.now.nodes count numbers) }
 {
-    if let Some(cell) = build.cell(pos) {
-        write(numbers, cell, number);
-    }
-}
-
-// Writes the number of a node under the cell of its place.
-fn number_node(numbers: &mut Vec<u32>, build: &Build, graph: &Graph, number: u32)
-    ensures { numbers.new.items ≡ with_node build.now numbers.old.items (node_place (node_at graph.now.nodes number)) number }
-{
-    if let Some(pos) = place_of_node(graph, Key::new(number)) {
-        put_number(numbers, build, pos, number);
-    }
-}
-
-// The numbers of the first nodes, by the cells of their places.
-fn numbers_of(alloc: Global, build: &Build, graph: &Graph, count: u32) -> Result<Vec<u32>, NoMemory>
-    requires { IsSpread build.now graph.now.nodes }
-    ensures { IfOk result (λ numbers. AreRanks build.now graph.now.nodes count numbers.items) }
-{
-    let mut numbers = vec![in alloc; 0; build.cells()]?;
+    let mut numbers = CellNumbers::new(alloc, build.cells())?;
     for number in 0..count {
-        number_node(&mut numbers, build, graph, number);
+        number_node(&mut numbers, build, graph, number)?;
     }
     Ok(numbers)
 }
 
-fn number_in(numbers: &[u32], cell: usize) -> u32
-    ensures { result ≡ slice_index numbers.now cell }
+// The number of the node in a cell.
+fn number_in(numbers: &CellNumbers, cell: usize) -> u32
+    requires { cell < 2 ^ 32 }
+    ensures { result ≡ option_map_or (λ n. n) (number_in numbers.now cell) 0 }
 {
-    numbers.get(cell).copied().unwrap_or(0)
+    match numbers.get(cell) {
+        Some(number) => number as u32,
+        None => 0,
+    }
 }
 
-// The number of the node of a place, as it was written.
-fn number_at(numbers: &[u32], build: &Build, pos: Pos) -> u32
-    ensures { result ≡ entry build.now numbers.now 0 pos }
+// The number of the node of a place.
+fn number_at(numbers: &CellNumbers, build: &Build, pos: Pos) -> u32
+    ensures { result ≡ node_number build.now numbers.now pos }
 {
+    let _cells = build.cells();
     match build.cell(pos) {
         Some(cell) => number_in(numbers, cell),
         None => 0,
     }
 }
 
-fn numbered(numbers: &[u32], build: &Build, group: Group, origin: Origin) -> Link
+fn numbered(numbers: &CellNumbers, build: &Build, group: Group, origin: Origin) -> Link
     ensures { result ≡ numbered build.now numbers.now group origin }
 {
     Link {
@@ -98,7 +120,7 @@ fn numbered(numbers: &[u32], build: &Build, group: Group, origin: Origin) -> Lin
 // Appends these links, with the numbers of the nodes that they come from.
 fn push_numbered(
     links: &mut Vec<Link>,
-    numbers: &[u32],
+    numbers: &CellNumbers,
     build: &Build,
     group: Group,
     origins: &[Origin],
@@ -133,7 +155,7 @@ impl Scratch {
 fn links_at(
     alloc: Global,
     scratch: &mut Scratch,
-    numbers: &[u32],
+    numbers: &CellNumbers,
     build: &Build,
     wiring: &Wiring,
     reader: Pos,
@@ -161,7 +183,7 @@ fn links_at(
 fn links_of_node(
     alloc: Global,
     scratch: &mut Scratch,
-    numbers: &[u32],
+    numbers: &CellNumbers,
     build: &Build,
     wiring: &Wiring,
     graph: &Graph,
@@ -183,7 +205,7 @@ fn lists_of(
     build: &Build,
     graph: &Graph,
     count: u32,
-    numbers: &[u32],
+    numbers: &CellNumbers,
 ) -> Result<Vec<Vec<Link>>, NoMemory>
     requires { IsSpread build.now graph.now.nodes }
     ensures length { IfOk result (λ lists. length lists.items ≡ count) }

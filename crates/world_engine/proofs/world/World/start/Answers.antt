@@ -1,9 +1,11 @@
 use Rattle.std.specs.Vec.{with_items}
 use Rattle.std.proofs.lemmas.List.{with_items_is}
-use Rattle.std.proofs.Common.{length, ◌≡◌, ℕ, List, sym, ap, subst, ◌∙◌, arith}
+use Rattle.std.proofs.Common.{length, ◌≡◌, ◌≤◌, ℕ, List, sym, ap, subst, ◌∙◌, arith}
 use Rattle.circuit.specs.declared.Pos.{Pos}
 use Rattle.circuit.specs.Circuit.{State, start}
-use Rattle.build.specs.Plan.{Plan}
+use Rattle.build.specs.Plan.{Plan, volume}
+use Rattle.wiring.specs.Things.{Numbered}
+use Rattle.wiring.specs.Numbers.{few_things}
 use Rattle.power_rules.specs.World.{world_circuit}
 use Rattle.world_engine.specs.Levels.{AreLevels, AreQuiet}
 use Rattle.world_engine.specs.Screens.{AreFaced}
@@ -46,3 +48,8 @@ returns-clause-start c =
     ∙ c.begin.ensures.start
     ∙ ap (λ (b : Plan). start (world_circuit b m.marks)) c.in_ok-things.ensures.plan
     ∙ ap (λ (ps : List Pos). start (world_circuit c.args.build.now ps)) c.in_ok-things.ensures.marks
+
+pub new-requires-2-clause-few : goal.new-requires-2-clause-few
+new-requires-2-clause-few c =
+    let few : length c.things.inside.spots.items ≤ volume c.things.inside.build = few_things _ c.things.invariant in
+    omega (arith, c.in_ok-stored_cells.ensures.whole, ap (λ (m : Numbered). length m.spots) c.things.view_is, few, c.things.invariant.whole.small)
