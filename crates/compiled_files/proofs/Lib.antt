@@ -1,1 +1,2 @@
 pub mod CompiledFiles
+pub mod OneMeaning
