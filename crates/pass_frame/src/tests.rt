@@ -1,5 +1,7 @@
 //! Passes that find nothing to do, composed.
 
+ghost use Rattle.std.specs.Prelude.{◌≡◌};
+
 use super::*;
 use std::test::Fail;
 

@@ -2,5 +2,5 @@
 use Rattle.pass_frame.specs.Frame.{Stays}
 use Rattle.pass_frame.proofs.tests.StarvedPass.run.Goals as goal
 
-pub returns : goal.returns
-returns c = Stays
+pub returns-clause-ran : goal.returns-clause-ran
+returns-clause-ran c = Stays
