@@ -5,8 +5,6 @@ mod facts;
 mod names;
 mod properties;
 mod reading;
-#[cfg(test)]
-mod tests;
 mod writing;
 
 pub use facts::{is_solid, opposite, slots};

@@ -67,5 +67,3 @@ pub struct OutPlace {
     pub kind: OutKind,
 }
 
-#[cfg(test)]
-mod tests;

@@ -78,7 +78,14 @@ is_output Lamp = true
 is_output Trapdoor = true
 is_output Note = true
 is_output Wire = true
-is_output kind = false
+is_output Lever = false
+is_output (Button delay) = false
+is_output Plate = false
+is_output Weighted = false
+is_output Torch = false
+is_output (Repeater delay) = false
+is_output (Comparator subtract direct far) = false
+is_output Constant = false
 
 -- an output, by its place and its key
 pub record Output : Type 0 where

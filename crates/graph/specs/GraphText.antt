@@ -39,7 +39,15 @@ abbrev pub detail_text : Kind → List ℕ
 detail_text (Button delay) = codes " delay " ++ decimal delay
 detail_text (Repeater delay) = codes " delay " ++ decimal delay
 detail_text (Comparator subtract direct far) = mode_text subtract ++ strength_text direct far
-detail_text _ = []
+detail_text Lever = []
+detail_text Plate = []
+detail_text Weighted = []
+detail_text Torch = []
+detail_text Lamp = []
+detail_text Trapdoor = []
+detail_text Note = []
+detail_text Wire = []
+detail_text Constant = []
 
 abbrev pub first_text : Bool → List ℕ
 first_text false = []

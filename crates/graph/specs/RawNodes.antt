@@ -1,7 +1,7 @@
 -- The nodes that a build is compiled to, before they are linked: one for each component, block of redstone and marked wire.
 use Rattle.std.specs.Prelude.{ℕ, Bool, true, false, ◌||◌, ◌&&◌, List, [], map, filter, Option, Some, None}
 use Rattle.block_table.specs.declared.Block.{Block}
-use Rattle.block_table.specs.declared.Block.TheVariants.{Wire as WireBlock, Torch as TorchBlock, WallTorch as WallTorchBlock, Repeater as RepeaterBlock, Comparator as ComparatorBlock, Lever as LeverBlock, Button as ButtonBlock, Plate as PlateBlock, RedstoneBlock, Lamp as LampBlock, Trapdoor as TrapdoorBlock, Weighted as WeightedBlock, Note as NoteBlock}
+use Rattle.block_table.specs.declared.Block.TheVariants.{Air, Inert, Slab, Wire as WireBlock, Torch as TorchBlock, WallTorch as WallTorchBlock, Repeater as RepeaterBlock, Comparator as ComparatorBlock, Lever as LeverBlock, Button as ButtonBlock, Plate as PlateBlock, RedstoneBlock, Lamp as LampBlock, Trapdoor as TrapdoorBlock, Container, Composter, Cauldron, Cake, Weighted as WeightedBlock, Note as NoteBlock}
 use Rattle.circuit.specs.declared.Pos.{Pos}
 use Rattle.build.specs.Plan.{Plan, entry, places, block_at}
 use Rattle.build.specs.Marks.{is_marked}
@@ -13,7 +13,25 @@ use Rattle.graph.specs.Graph.{Node, Nodes}
 
 abbrev pub is_wire_block : Block → Bool
 is_wire_block (WireBlock north east south west power) = true
-is_wire_block _ = false
+is_wire_block Air = false
+is_wire_block (Inert name) = false
+is_wire_block (Slab name half) = false
+is_wire_block (TorchBlock lit) = false
+is_wire_block (WallTorchBlock facing lit) = false
+is_wire_block (RepeaterBlock delay facing powered) = false
+is_wire_block (ComparatorBlock facing subtract) = false
+is_wire_block (LeverBlock face facing powered) = false
+is_wire_block (ButtonBlock name face facing powered) = false
+is_wire_block (PlateBlock name powered) = false
+is_wire_block RedstoneBlock = false
+is_wire_block (LampBlock lit) = false
+is_wire_block (TrapdoorBlock facing top powered) = false
+is_wire_block (Container name) = false
+is_wire_block (Composter level) = false
+is_wire_block (Cauldron water level) = false
+is_wire_block (Cake bites) = false
+is_wire_block (WeightedBlock name power) = false
+is_wire_block (NoteBlock powered) = false
 
 -- whether a place has a node
 unfoldable pub has_node : Plan → List Pos → Pos → Bool
@@ -38,12 +56,37 @@ kind_of b p (LampBlock lit) = Lamp
 kind_of b p (TrapdoorBlock facing top powered) = Trapdoor
 kind_of b p (NoteBlock powered) = Note
 kind_of b p RedstoneBlock = Constant
-kind_of b p _ = Wire
+kind_of b p Air = Wire
+kind_of b p (Inert name) = Wire
+kind_of b p (Slab name half) = Wire
+kind_of b p (WireBlock north east south west power) = Wire
+kind_of b p (Container name) = Wire
+kind_of b p (Composter level) = Wire
+kind_of b p (Cauldron water level) = Wire
+kind_of b p (Cake bites) = Wire
 
 -- a block of redstone gives 15 always, and every other node begins with what its block stores
 abbrev pub state_of : Block → ℕ → ℕ
 state_of RedstoneBlock level = 15
-state_of block level = stored_value block level
+state_of Air level = stored_value Air level
+state_of (Inert name) level = stored_value (Inert name) level
+state_of (Slab name half) level = stored_value (Slab name half) level
+state_of (WireBlock north east south west power) level = stored_value (WireBlock north east south west power) level
+state_of (TorchBlock lit) level = stored_value (TorchBlock lit) level
+state_of (WallTorchBlock facing lit) level = stored_value (WallTorchBlock facing lit) level
+state_of (RepeaterBlock delay facing powered) level = stored_value (RepeaterBlock delay facing powered) level
+state_of (ComparatorBlock facing subtract) level = stored_value (ComparatorBlock facing subtract) level
+state_of (LeverBlock face facing powered) level = stored_value (LeverBlock face facing powered) level
+state_of (ButtonBlock name face facing powered) level = stored_value (ButtonBlock name face facing powered) level
+state_of (PlateBlock name powered) level = stored_value (PlateBlock name powered) level
+state_of (LampBlock lit) level = stored_value (LampBlock lit) level
+state_of (TrapdoorBlock facing top powered) level = stored_value (TrapdoorBlock facing top powered) level
+state_of (Container name) level = stored_value (Container name) level
+state_of (Composter of_level) level = stored_value (Composter of_level) level
+state_of (Cauldron water of_level) level = stored_value (Cauldron water of_level) level
+state_of (Cake bites) level = stored_value (Cake bites) level
+state_of (WeightedBlock name power) level = stored_value (WeightedBlock name power) level
+state_of (NoteBlock powered) level = stored_value (NoteBlock powered) level
 
 -- the node of a place, without links
 unfoldable pub bare_node : Plan → List Pos → Pos → Node

@@ -2,7 +2,7 @@
 use Rattle.std.specs.Prelude.{ℕ, ◌-◌, max, List, [], ◌∷◌, Option, Some, None, if◌then◌else◌, nat_lt}
 use Rattle.circuit.specs.declared.Readings.{Readings}
 use Rattle.graph.specs.declared.Kind.{Kind}
-use Rattle.graph.specs.declared.Kind.TheVariants.{Comparator}
+use Rattle.graph.specs.declared.Kind.TheVariants.{Lever, Button, Plate, Weighted, Torch, Repeater, Comparator, Lamp, Trapdoor, Note, Wire, Constant}
 use Rattle.graph.specs.declared.Group.{Group}
 use Rattle.graph.specs.declared.Group.TheVariants.{Back, Side}
 use Rattle.graph.specs.declared.Link.{Link}
@@ -31,7 +31,17 @@ direct_back (Some direct) power = direct
 -- the back reading of a node whose Back links bring so much
 abbrev pub back_of : Kind → ℕ → ℕ
 back_of (Comparator subtract direct far) power = direct_back direct (far_back far power)
-back_of kind power = power
+back_of Lever power = power
+back_of (Button delay) power = power
+back_of Plate power = power
+back_of Weighted power = power
+back_of Torch power = power
+back_of (Repeater delay) power = power
+back_of Lamp power = power
+back_of Trapdoor power = power
+back_of Note power = power
+back_of Wire power = power
+back_of Constant power = power
 
 -- both readings of a node
 abbrev pub readings_of : (ℕ → ℕ) → Node → Readings

@@ -3,7 +3,7 @@ use Rattle.std.specs.Prelude.{◌≡◌, Bool, true, false}
 use Rattle.circuit.specs.declared.Pos.{Pos}
 use Rattle.circuit.specs.Shows.{Refines as ShowsNoMore}
 use Rattle.graph.specs.declared.Kind.{Kind}
-use Rattle.graph.specs.declared.Kind.TheVariants.{Torch, Repeater, Comparator, Constant}
+use Rattle.graph.specs.declared.Kind.TheVariants.{Lever, Button, Plate, Weighted, Torch, Repeater, Comparator, Lamp, Trapdoor, Note, Wire, Constant}
 use Rattle.graph.specs.Graph.{Nodes, HasNode}
 use Rattle.graph.specs.GraphCircuit.{graph_circuit}
 
@@ -13,7 +13,14 @@ is_outer Torch = false
 is_outer (Repeater delay) = false
 is_outer (Comparator subtract direct far) = false
 is_outer Constant = false
-is_outer kind = true
+is_outer Lever = true
+is_outer (Button delay) = true
+is_outer Plate = true
+is_outer Weighted = true
+is_outer Lamp = true
+is_outer Trapdoor = true
+is_outer Note = true
+is_outer Wire = true
 
 -- a node of the kind stands at the place
 abbrev pub StandsAt : Nodes → Pos → Kind → Type 0

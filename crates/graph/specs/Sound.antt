@@ -5,7 +5,7 @@ use Rattle.circuit.specs.declared.Component.{Component}
 use Rattle.circuit.specs.Component.{top}
 use Rattle.circuit.specs.Circuit.{EachBefore}
 use Rattle.graph.specs.declared.Kind.{Kind}
-use Rattle.graph.specs.declared.Kind.TheVariants.{Button, Torch, Repeater, Comparator, Lamp}
+use Rattle.graph.specs.declared.Kind.TheVariants.{Lever, Button, Plate, Weighted, Torch, Repeater, Comparator, Lamp, Trapdoor, Note, Wire, Constant}
 use Rattle.graph.specs.declared.Link.{Link}
 use Rattle.graph.specs.Graph.{Node, Nodes, node_at, Lives}
 use Rattle.graph.specs.GraphCircuit.{role_of}
@@ -19,7 +19,15 @@ abbrev pub IsKindInRange : Kind → Type 0
 IsKindInRange (Button delay) = (delay ≡ 10) ⊎ (delay ≡ 15)
 IsKindInRange (Repeater delay) = (1 ≤ delay) × (delay ≤ 4)
 IsKindInRange (Comparator subtract direct far) = IfSome direct (λ strength. strength ≤ 15) × IfSome far (λ strength. strength ≤ 15)
-IsKindInRange _ = Unit {0}
+IsKindInRange Lever = Unit {0}
+IsKindInRange Plate = Unit {0}
+IsKindInRange Weighted = Unit {0}
+IsKindInRange Torch = Unit {0}
+IsKindInRange Lamp = Unit {0}
+IsKindInRange Trapdoor = Unit {0}
+IsKindInRange Note = Unit {0}
+IsKindInRange Wire = Unit {0}
+IsKindInRange Constant = Unit {0}
 
 -- which kinds may have a pending tick
 abbrev pub can_wait : Kind → Bool
@@ -28,7 +36,13 @@ can_wait (Repeater delay) = true
 can_wait (Comparator subtract direct far) = true
 can_wait Lamp = true
 can_wait (Button delay) = true
-can_wait kind = false
+can_wait Lever = false
+can_wait Plate = false
+can_wait Weighted = false
+can_wait Trapdoor = false
+can_wait Note = false
+can_wait Wire = false
+can_wait Constant = false
 
 -- Each number of the node is in its range, only a kind that may wait has a pending tick, and its links come from nodes.
 pub record IsSoundNode (g : Nodes) (node : Node) : Type 0 where

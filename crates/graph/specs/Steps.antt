@@ -4,7 +4,7 @@ use Rattle.circuit.specs.declared.Component.{Component}
 use Rattle.circuit.specs.Component.{goal, locked, out}
 use Rattle.circuit.specs.Circuit.{Among}
 use Rattle.graph.specs.declared.Kind.{Kind}
-use Rattle.graph.specs.declared.Kind.TheVariants.{Lever, Button, Plate, Torch, Repeater, Comparator, Constant}
+use Rattle.graph.specs.declared.Kind.TheVariants.{Lever, Button, Plate, Weighted, Torch, Repeater, Comparator, Lamp, Trapdoor, Note, Wire, Constant}
 use Rattle.graph.specs.declared.Group.TheVariants.{Back, Side}
 use Rattle.graph.specs.declared.Link.{Link}
 use Rattle.graph.specs.Graph.{Node, Nodes, node_at, Lives, HasLink}
@@ -37,7 +37,17 @@ pub record Dedups (old new : Nodes) : Type 0 where
 
 abbrev pub fixed_out : Kind → ℕ → ℕ
 fixed_out Constant state = state
-fixed_out kind state = 0
+fixed_out Lever state = 0
+fixed_out (Button delay) state = 0
+fixed_out Plate state = 0
+fixed_out Weighted state = 0
+fixed_out Torch state = 0
+fixed_out (Repeater delay) state = 0
+fixed_out (Comparator subtract direct far) state = 0
+fixed_out Lamp state = 0
+fixed_out Trapdoor state = 0
+fixed_out Note state = 0
+fixed_out Wire state = 0
 
 -- what a Constant gives, and 0 for every other node
 abbrev pub fixed_at : Option Node → ℕ
@@ -51,7 +61,17 @@ fixed g key = fixed_at (node_at g key)
 abbrev pub bound_of : (ℕ → ℕ) → Node → Kind → ℕ
 bound_of given node Constant = node.state
 bound_of given node (Comparator true direct far) = max node.state (15 - reading given Side node.links)
-bound_of given node kind = 15
+bound_of given node (Comparator false direct far) = 15
+bound_of given node Lever = 15
+bound_of given node (Button delay) = 15
+bound_of given node Plate = 15
+bound_of given node Weighted = 15
+bound_of given node Torch = 15
+bound_of given node (Repeater delay) = 15
+bound_of given node Lamp = 15
+bound_of given node Trapdoor = 15
+bound_of given node Note = 15
+bound_of given node Wire = 15
 
 -- What a node never passes: a Constant its state, and every other node 15. A comparator that subtracts loses at least what
 -- Constants bring to its side, so it never passes 15 less that, or its own state where that is more.
@@ -73,7 +93,15 @@ abbrev pub can_fold : Kind → Bool
 can_fold Torch = true
 can_fold (Repeater delay) = true
 can_fold (Comparator subtract direct far) = true
-can_fold kind = false
+can_fold Lever = false
+can_fold (Button delay) = false
+can_fold Plate = false
+can_fold Weighted = false
+can_fold Lamp = false
+can_fold Trapdoor = false
+can_fold Note = false
+can_fold Wire = false
+can_fold Constant = false
 
 -- Fold: what reads Constants alone, has no pending tick, and is at its goal or locked, never changes. It becomes a Constant.
 pub record Folds (old new : Nodes) : Type 0 where
@@ -96,13 +124,27 @@ is_full_or_none Plate state = true
 is_full_or_none Torch state = true
 is_full_or_none (Repeater delay) state = true
 is_full_or_none Constant state = (state == 0) || (state == 15)
-is_full_or_none kind state = false
+is_full_or_none Weighted state = false
+is_full_or_none (Comparator subtract direct far) state = false
+is_full_or_none Lamp state = false
+is_full_or_none Trapdoor state = false
+is_full_or_none Note state = false
+is_full_or_none Wire state = false
 
 -- a torch or a repeater, which ask only whether there is any power
 abbrev pub asks_for_any : Kind → Bool
 asks_for_any Torch = true
 asks_for_any (Repeater delay) = true
-asks_for_any kind = false
+asks_for_any Lever = false
+asks_for_any (Button delay) = false
+asks_for_any Plate = false
+asks_for_any Weighted = false
+asks_for_any (Comparator subtract direct far) = false
+asks_for_any Lamp = false
+asks_for_any Trapdoor = false
+asks_for_any Note = false
+asks_for_any Wire = false
+asks_for_any Constant = false
 
 -- Two nodes that always do the same.
 pub record AreTwins (g : Nodes) (keep gone : ℕ) : Type 0 where
@@ -154,7 +196,14 @@ can_go Torch = true
 can_go (Repeater delay) = true
 can_go (Comparator subtract direct far) = true
 can_go Constant = true
-can_go kind = false
+can_go Lever = false
+can_go (Button delay) = false
+can_go Plate = false
+can_go Weighted = false
+can_go Lamp = false
+can_go Trapdoor = false
+can_go Note = false
+can_go Wire = false
 
 -- Prune: a node and all that it reaches go, where none of them is shown or clicked.
 pub record Prunes (old new : Nodes) : Type 0 where

@@ -105,7 +105,15 @@ fn push_detail(text: &mut Vec<u8>, kind: Kind) -> Result<(), NoMemory>
             direct,
             far,
         } => push_comparator(text, subtract, direct, far),
-        _ => Ok(()),
+        Kind::Lever
+        | Kind::Plate
+        | Kind::Weighted
+        | Kind::Torch
+        | Kind::Lamp
+        | Kind::Trapdoor
+        | Kind::Note
+        | Kind::Wire
+        | Kind::Constant => Ok(()),
     }
 }
 

@@ -7,8 +7,6 @@ mod placed;
 mod ranges;
 mod reading;
 mod targets;
-#[cfg(test)]
-mod tests;
 mod writing;
 
 pub use placed::PlacedTargets;

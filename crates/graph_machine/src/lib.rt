@@ -22,5 +22,3 @@ pub use headed::outputs_of;
 pub use machine::Machine;
 pub use steps::Steps;
 
-#[cfg(test)]
-mod tests;

@@ -9,8 +9,6 @@ mod open;
 mod pieces;
 mod reader;
 mod refusals;
-#[cfg(test)]
-mod tests;
 mod trees;
 mod writer;
 

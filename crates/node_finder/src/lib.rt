@@ -61,7 +61,14 @@ fn kind_of(build: &Build, pos: Pos) -> Kind
         Block::Trapdoor { .. } => Kind::Trapdoor,
         Block::Note { .. } => Kind::Note,
         Block::RedstoneBlock => Kind::Constant,
-        _ => Kind::Wire,
+        Block::Air
+        | Block::Inert { .. }
+        | Block::Slab { .. }
+        | Block::Wire { .. }
+        | Block::Container { .. }
+        | Block::Composter { .. }
+        | Block::Cauldron { .. }
+        | Block::Cake { .. } => Kind::Wire,
     }
 }
 
@@ -71,7 +78,25 @@ fn state_of(build: &Build, pos: Pos) -> u8
 {
     match build.at(pos) {
         Block::RedstoneBlock => 15,
-        _ => stored_value(build, pos),
+        Block::Air
+        | Block::Inert { .. }
+        | Block::Slab { .. }
+        | Block::Wire { .. }
+        | Block::Torch { .. }
+        | Block::WallTorch { .. }
+        | Block::Repeater { .. }
+        | Block::Comparator { .. }
+        | Block::Lever { .. }
+        | Block::Button { .. }
+        | Block::Plate { .. }
+        | Block::Lamp { .. }
+        | Block::Trapdoor { .. }
+        | Block::Container { .. }
+        | Block::Composter { .. }
+        | Block::Cauldron { .. }
+        | Block::Cake { .. }
+        | Block::Weighted { .. }
+        | Block::Note { .. } => stored_value(build, pos),
     }
 }
 
@@ -85,7 +110,24 @@ fn has_node(build: &Build, marks: &Marks, cell: usize) -> bool
     match block {
         Block::Wire { .. } => marks.contains(build.place(cell)),
         Block::RedstoneBlock => true,
-        _ => component(block, false).is_some(),
+        Block::Air
+        | Block::Inert { .. }
+        | Block::Slab { .. }
+        | Block::Torch { .. }
+        | Block::WallTorch { .. }
+        | Block::Repeater { .. }
+        | Block::Comparator { .. }
+        | Block::Lever { .. }
+        | Block::Button { .. }
+        | Block::Plate { .. }
+        | Block::Lamp { .. }
+        | Block::Trapdoor { .. }
+        | Block::Container { .. }
+        | Block::Composter { .. }
+        | Block::Cauldron { .. }
+        | Block::Cake { .. }
+        | Block::Weighted { .. }
+        | Block::Note { .. } => component(block, false).is_some(),
     }
 }
 

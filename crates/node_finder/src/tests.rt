@@ -34,7 +34,24 @@ fn store(rt: &impl Abort, build: &mut Build, pos: Pos, level: u8) -> Result<(), 
     match build.at(pos) {
         Block::Comparator { .. } => build.set_output(pos, level),
         Block::Container { .. } => build.set_strength(pos, level),
-        _ => panic!(rt; "no level at {pos:?}"),
+        Block::Air
+        | Block::Inert { .. }
+        | Block::Slab { .. }
+        | Block::Wire { .. }
+        | Block::Torch { .. }
+        | Block::WallTorch { .. }
+        | Block::Repeater { .. }
+        | Block::Lever { .. }
+        | Block::Button { .. }
+        | Block::Plate { .. }
+        | Block::RedstoneBlock
+        | Block::Lamp { .. }
+        | Block::Trapdoor { .. }
+        | Block::Composter { .. }
+        | Block::Cauldron { .. }
+        | Block::Cake { .. }
+        | Block::Weighted { .. }
+        | Block::Note { .. } => panic!(rt; "no level at {pos:?}"),
     }
 }
 

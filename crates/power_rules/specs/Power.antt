@@ -6,7 +6,7 @@ use Rattle.block_table.specs.declared.Side.TheVariants.{Down, Up}
 use Rattle.block_table.specs.declared.Face.{Face}
 use Rattle.block_table.specs.declared.Face.TheVariants.{Floor, Wall, Ceiling}
 use Rattle.block_table.specs.declared.Block.{Block}
-use Rattle.block_table.specs.declared.Block.TheVariants.{Wire, Torch, WallTorch, Repeater, Comparator, Lever, Button, Plate, RedstoneBlock, Weighted}
+use Rattle.block_table.specs.declared.Block.TheVariants.{Air, Inert, Slab, Wire, Torch, WallTorch, Repeater, Comparator, Lever, Button, Plate, RedstoneBlock, Lamp, Trapdoor, Container, Composter, Cauldron, Cake, Weighted, Note}
 use Rattle.block_table.specs.Facts.{opposite}
 use Rattle.circuit.specs.declared.Pos.{Pos}
 use Rattle.build.specs.Place.{beside, sides, same_side}
@@ -42,7 +42,16 @@ weak_of b p (Comparator facing subtract) level side = only (same_side side (oppo
 weak_of b p (Wire north east south west power) level Down = level
 weak_of b p (Wire north east south west power) level Up = 0
 weak_of b p (Wire north east south west power) level side = only (points b p side) level
-weak_of b p _ level side = 0
+weak_of b p Air level side = 0
+weak_of b p (Inert name) level side = 0
+weak_of b p (Slab name half) level side = 0
+weak_of b p (Lamp lit) level side = 0
+weak_of b p (Trapdoor facing top powered) level side = 0
+weak_of b p (Container name) level side = 0
+weak_of b p (Composter levels) level side = 0
+weak_of b p (Cauldron water levels) level side = 0
+weak_of b p (Cake bites) level side = 0
+weak_of b p (Note powered) level side = 0
 
 unfoldable pub weak : Plan → (Pos → ℕ) → Pos → Side → ℕ
 weak b level p side = weak_of b p (block_at b p) (level p) side
@@ -59,7 +68,17 @@ strong_of b p (Weighted name power) level side = only (same_side side Down) leve
 strong_of b p (Repeater delay facing powered) level side = weak_of b p (Repeater delay facing powered) level side
 strong_of b p (Comparator facing subtract) level side = weak_of b p (Comparator facing subtract) level side
 strong_of b p (Wire north east south west power) level side = weak_of b p (Wire north east south west power) level side
-strong_of b p _ level side = 0
+strong_of b p Air level side = 0
+strong_of b p (Inert name) level side = 0
+strong_of b p (Slab name half) level side = 0
+strong_of b p RedstoneBlock level side = 0
+strong_of b p (Lamp lit) level side = 0
+strong_of b p (Trapdoor facing top powered) level side = 0
+strong_of b p (Container name) level side = 0
+strong_of b p (Composter levels) level side = 0
+strong_of b p (Cauldron water levels) level side = 0
+strong_of b p (Cake bites) level side = 0
+strong_of b p (Note powered) level side = 0
 
 unfoldable pub strong : Plan → (Pos → ℕ) → Pos → Side → ℕ
 strong b level p side = strong_of b p (block_at b p) (level p) side
@@ -109,7 +128,24 @@ measured b level p facing = or_direct (direct_at b p facing) (or_far (far_at b p
 abbrev pub back_of : Plan → (Pos → ℕ) → Pos → Block → ℕ
 back_of b level p (Repeater delay facing powered) = input b level p facing
 back_of b level p (Comparator facing subtract) = measured b level p facing
-back_of b level p _ = 0
+back_of b level p Air = 0
+back_of b level p (Inert name) = 0
+back_of b level p (Slab name half) = 0
+back_of b level p (Wire north east south west power) = 0
+back_of b level p (Torch lit) = 0
+back_of b level p (WallTorch facing lit) = 0
+back_of b level p (Lever face facing powered) = 0
+back_of b level p (Button name face facing powered) = 0
+back_of b level p (Plate name powered) = 0
+back_of b level p RedstoneBlock = 0
+back_of b level p (Lamp lit) = 0
+back_of b level p (Trapdoor facing top powered) = 0
+back_of b level p (Container name) = 0
+back_of b level p (Composter levels) = 0
+back_of b level p (Cauldron water levels) = 0
+back_of b level p (Cake bites) = 0
+back_of b level p (Weighted name power) = 0
+back_of b level p (Note powered) = 0
 
 unfoldable pub back_at : Plan → (Pos → ℕ) → Pos → ℕ
 back_at b level p = back_of b level p (block_at b p)
@@ -118,7 +154,24 @@ back_at b level p = back_of b level p (block_at b p)
 abbrev pub turned : Block → ℕ → Side → ℕ
 turned (Repeater delay facing powered) level side = only (same_side facing side) (full level)
 turned (Comparator facing subtract) level side = only (same_side facing side) level
-turned _ level side = 0
+turned Air level side = 0
+turned (Inert name) level side = 0
+turned (Slab name half) level side = 0
+turned (Wire north east south west power) level side = 0
+turned (Torch lit) level side = 0
+turned (WallTorch facing lit) level side = 0
+turned (Lever face facing powered) level side = 0
+turned (Button name face facing powered) level side = 0
+turned (Plate name powered) level side = 0
+turned RedstoneBlock level side = 0
+turned (Lamp lit) level side = 0
+turned (Trapdoor facing top powered) level side = 0
+turned (Container name) level side = 0
+turned (Composter levels) level side = 0
+turned (Cauldron water levels) level side = 0
+turned (Cake bites) level side = 0
+turned (Weighted name power) level side = 0
+turned (Note powered) level side = 0
 
 abbrev pub turned_at : Plan → (Pos → ℕ) → Pos → Side → ℕ
 turned_at b level p side = turned (block_at b (beside side p)) (level (beside side p)) side
@@ -129,7 +182,25 @@ lock_power b level p facing = greatest (map (turned_at b level p) (across facing
 
 abbrev pub is_locked_of : Plan → (Pos → ℕ) → Pos → Block → Bool
 is_locked_of b level p (Repeater delay facing powered) = nat_lt 0 (lock_power b level p facing)
-is_locked_of b level p _ = false
+is_locked_of b level p Air = false
+is_locked_of b level p (Inert name) = false
+is_locked_of b level p (Slab name half) = false
+is_locked_of b level p (Wire north east south west power) = false
+is_locked_of b level p (Torch lit) = false
+is_locked_of b level p (WallTorch facing lit) = false
+is_locked_of b level p (Comparator facing subtract) = false
+is_locked_of b level p (Lever face facing powered) = false
+is_locked_of b level p (Button name face facing powered) = false
+is_locked_of b level p (Plate name powered) = false
+is_locked_of b level p RedstoneBlock = false
+is_locked_of b level p (Lamp lit) = false
+is_locked_of b level p (Trapdoor facing top powered) = false
+is_locked_of b level p (Container name) = false
+is_locked_of b level p (Composter levels) = false
+is_locked_of b level p (Cauldron water levels) = false
+is_locked_of b level p (Cake bites) = false
+is_locked_of b level p (Weighted name power) = false
+is_locked_of b level p (Note powered) = false
 
 -- whether the block at a place is a repeater that is locked
 unfoldable pub locked_at : Plan → (Pos → ℕ) → Pos → Bool
@@ -139,7 +210,24 @@ locked_at b level p = is_locked_of b level p (block_at b p)
 abbrev pub lateral : Block → ℕ → Side → ℕ
 lateral (Wire north east south west power) level side = level
 lateral RedstoneBlock level side = 15
-lateral block level side = turned block level side
+lateral Air level side = turned Air level side
+lateral (Inert name) level side = turned (Inert name) level side
+lateral (Slab name half) level side = turned (Slab name half) level side
+lateral (Torch lit) level side = turned (Torch lit) level side
+lateral (WallTorch facing lit) level side = turned (WallTorch facing lit) level side
+lateral (Repeater delay facing powered) level side = turned (Repeater delay facing powered) level side
+lateral (Comparator facing subtract) level side = turned (Comparator facing subtract) level side
+lateral (Lever face facing powered) level side = turned (Lever face facing powered) level side
+lateral (Button name face facing powered) level side = turned (Button name face facing powered) level side
+lateral (Plate name powered) level side = turned (Plate name powered) level side
+lateral (Lamp lit) level side = turned (Lamp lit) level side
+lateral (Trapdoor facing top powered) level side = turned (Trapdoor facing top powered) level side
+lateral (Container name) level side = turned (Container name) level side
+lateral (Composter fill) level side = turned (Composter fill) level side
+lateral (Cauldron water fill) level side = turned (Cauldron water fill) level side
+lateral (Cake bites) level side = turned (Cake bites) level side
+lateral (Weighted name power) level side = turned (Weighted name power) level side
+lateral (Note powered) level side = turned (Note powered) level side
 
 abbrev pub lateral_at : Plan → (Pos → ℕ) → Pos → Side → ℕ
 lateral_at b level p side = lateral (block_at b (beside side p)) (level (beside side p)) side
@@ -150,7 +238,25 @@ lateral_power b level p facing = greatest (map (lateral_at b level p) (across fa
 
 abbrev pub side_of : Plan → (Pos → ℕ) → Pos → Block → ℕ
 side_of b level p (Comparator facing subtract) = lateral_power b level p facing
-side_of b level p _ = 0
+side_of b level p Air = 0
+side_of b level p (Inert name) = 0
+side_of b level p (Slab name half) = 0
+side_of b level p (Wire north east south west power) = 0
+side_of b level p (Torch lit) = 0
+side_of b level p (WallTorch facing lit) = 0
+side_of b level p (Repeater delay facing powered) = 0
+side_of b level p (Lever face facing powered) = 0
+side_of b level p (Button name face facing powered) = 0
+side_of b level p (Plate name powered) = 0
+side_of b level p RedstoneBlock = 0
+side_of b level p (Lamp lit) = 0
+side_of b level p (Trapdoor facing top powered) = 0
+side_of b level p (Container name) = 0
+side_of b level p (Composter levels) = 0
+side_of b level p (Cauldron water levels) = 0
+side_of b level p (Cake bites) = 0
+side_of b level p (Weighted name power) = 0
+side_of b level p (Note powered) = 0
 
 unfoldable pub side_at : Plan → (Pos → ℕ) → Pos → ℕ
 side_at b level p = side_of b level p (block_at b p)

@@ -2,7 +2,7 @@
 use Rattle.std.specs.Prelude.{ℕ, [], Option, Some, None}
 use Rattle.block_table.specs.declared.Side.TheVariants.{Down}
 use Rattle.block_table.specs.declared.Block.{Block}
-use Rattle.block_table.specs.declared.Block.TheVariants.{Wire, Torch, WallTorch, Repeater, Comparator, Lamp, Trapdoor, Note}
+use Rattle.block_table.specs.declared.Block.TheVariants.{Air, Inert, Slab, Wire, Torch, WallTorch, Repeater, Comparator, Lever, Button, Plate, RedstoneBlock, Lamp, Trapdoor, Container, Composter, Cauldron, Cake, Weighted, Note}
 use Rattle.block_table.specs.Facts.{opposite}
 use Rattle.circuit.specs.declared.Pos.{Pos}
 use Rattle.circuit.specs.declared.Component.{Component}
@@ -24,7 +24,18 @@ readings_of b level p (Note powered) = record { back = read_around b level p; si
 readings_of b level p (Repeater delay facing powered) = record { back = input b level p facing; side = lock_power b level p facing }
 readings_of b level p (Comparator facing subtract) = record { back = measured b level p facing; side = lateral_power b level p facing }
 readings_of b level p (Wire north east south west power) = record { back = level p; side = 0 }
-readings_of b level p _ = record { back = 0; side = 0 }
+readings_of b level p Air = record { back = 0; side = 0 }
+readings_of b level p (Inert name) = record { back = 0; side = 0 }
+readings_of b level p (Slab name half) = record { back = 0; side = 0 }
+readings_of b level p (Lever face facing powered) = record { back = 0; side = 0 }
+readings_of b level p (Button name face facing powered) = record { back = 0; side = 0 }
+readings_of b level p (Plate name powered) = record { back = 0; side = 0 }
+readings_of b level p RedstoneBlock = record { back = 0; side = 0 }
+readings_of b level p (Container name) = record { back = 0; side = 0 }
+readings_of b level p (Composter levels) = record { back = 0; side = 0 }
+readings_of b level p (Cauldron water levels) = record { back = 0; side = 0 }
+readings_of b level p (Cake bites) = record { back = 0; side = 0 }
+readings_of b level p (Weighted name power) = record { back = 0; side = 0 }
 
 unfoldable pub readings_at : Plan → (Pos → ℕ) → Pos → Readings
 readings_at b level p = readings_of b level p (block_at b p)

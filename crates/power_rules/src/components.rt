@@ -42,7 +42,15 @@ pub fn component(block: Block, marked: bool) -> Option<Component>
         Block::Trapdoor { .. } => Some(Component::Trapdoor),
         Block::Note { .. } => Some(Component::Note),
         Block::Wire { .. } if marked => Some(Component::Wire),
-        _ => None,
+        Block::Air
+        | Block::Inert { .. }
+        | Block::Slab { .. }
+        | Block::Wire { .. }
+        | Block::RedstoneBlock
+        | Block::Container { .. }
+        | Block::Composter { .. }
+        | Block::Cauldron { .. }
+        | Block::Cake { .. } => None,
     }
 }
 
@@ -52,7 +60,25 @@ pub fn base(block: Block) -> u8
 {
     match block {
         Block::RedstoneBlock => 15,
-        _ => 0,
+        Block::Air
+        | Block::Inert { .. }
+        | Block::Slab { .. }
+        | Block::Wire { .. }
+        | Block::Torch { .. }
+        | Block::WallTorch { .. }
+        | Block::Repeater { .. }
+        | Block::Comparator { .. }
+        | Block::Lever { .. }
+        | Block::Button { .. }
+        | Block::Plate { .. }
+        | Block::Lamp { .. }
+        | Block::Trapdoor { .. }
+        | Block::Container { .. }
+        | Block::Composter { .. }
+        | Block::Cauldron { .. }
+        | Block::Cake { .. }
+        | Block::Weighted { .. }
+        | Block::Note { .. } => 0,
     }
 }
 
@@ -71,7 +97,15 @@ pub fn stored_value(build: &Build, pos: Pos) -> u8
         Block::Torch { lit } | Block::WallTorch { lit, .. } | Block::Lamp { lit } => u8::from(lit),
         Block::Weighted { power, .. } => power,
         Block::Comparator { .. } => build.output(pos),
-        _ => 0,
+        Block::Air
+        | Block::Inert { .. }
+        | Block::Slab { .. }
+        | Block::Wire { .. }
+        | Block::RedstoneBlock
+        | Block::Container { .. }
+        | Block::Composter { .. }
+        | Block::Cauldron { .. }
+        | Block::Cake { .. } => 0,
     }
 }
 
@@ -83,7 +117,24 @@ fn is_diode_facing_elsewhere(block: Block, side: Side) -> bool
         Block::Repeater { facing, .. } | Block::Comparator { facing, .. } => !same_side(
             facing, side,
         ),
-        _ => false,
+        Block::Air
+        | Block::Inert { .. }
+        | Block::Slab { .. }
+        | Block::Wire { .. }
+        | Block::Torch { .. }
+        | Block::WallTorch { .. }
+        | Block::Lever { .. }
+        | Block::Button { .. }
+        | Block::Plate { .. }
+        | Block::RedstoneBlock
+        | Block::Lamp { .. }
+        | Block::Trapdoor { .. }
+        | Block::Container { .. }
+        | Block::Composter { .. }
+        | Block::Cauldron { .. }
+        | Block::Cake { .. }
+        | Block::Weighted { .. }
+        | Block::Note { .. } => false,
     }
 }
 
@@ -107,7 +158,24 @@ pub fn faces_diode(build: &Build, pos: Pos) -> bool
     match build.at(pos) {
         Block::Repeater { facing, .. } => faces_from(build, pos, facing),
         Block::Comparator { facing, .. } => faces_from(build, pos, facing),
-        _ => false,
+        Block::Air
+        | Block::Inert { .. }
+        | Block::Slab { .. }
+        | Block::Wire { .. }
+        | Block::Torch { .. }
+        | Block::WallTorch { .. }
+        | Block::Lever { .. }
+        | Block::Button { .. }
+        | Block::Plate { .. }
+        | Block::RedstoneBlock
+        | Block::Lamp { .. }
+        | Block::Trapdoor { .. }
+        | Block::Container { .. }
+        | Block::Composter { .. }
+        | Block::Cauldron { .. }
+        | Block::Cake { .. }
+        | Block::Weighted { .. }
+        | Block::Note { .. } => false,
     }
 }
 
@@ -137,7 +205,18 @@ pub fn readings<L: Levels>(build: &Build, levels: &L, pos: Pos) -> Readings
             side: lateral_power(build, levels, pos, facing),
         },
         Block::Wire { .. } => reading(levels.level(pos)),
-        _ => reading(0),
+        Block::Air
+        | Block::Inert { .. }
+        | Block::Slab { .. }
+        | Block::Lever { .. }
+        | Block::Button { .. }
+        | Block::Plate { .. }
+        | Block::RedstoneBlock
+        | Block::Container { .. }
+        | Block::Composter { .. }
+        | Block::Cauldron { .. }
+        | Block::Cake { .. }
+        | Block::Weighted { .. } => reading(0),
     }
 }
 

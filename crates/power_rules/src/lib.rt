@@ -9,8 +9,6 @@ ghost use Rattle.circuit.specs.declared.Pos.{Pos as Place};
 mod components;
 pub mod laws;
 mod power;
-#[cfg(test)]
-mod tests;
 
 pub use circuit::Pos;
 pub use components::{base, button_delay, component, faces_diode, goal, readings, stored_value};

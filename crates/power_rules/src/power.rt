@@ -49,7 +49,18 @@ pub fn weak<L: Levels>(build: &Build, levels: &L, from: Pos, side: Side) -> u8
             _ if points(build, from, side) => level,
             _ => 0,
         },
-        _ => 0,
+        Block::Air
+        | Block::Inert { .. }
+        | Block::Slab { .. }
+        | Block::Repeater { .. }
+        | Block::Comparator { .. }
+        | Block::Lamp { .. }
+        | Block::Trapdoor { .. }
+        | Block::Container { .. }
+        | Block::Composter { .. }
+        | Block::Cauldron { .. }
+        | Block::Cake { .. }
+        | Block::Note { .. } => 0,
     }
 }
 
@@ -68,7 +79,23 @@ pub fn strong<L: Levels>(build: &Build, levels: &L, from: Pos, side: Side) -> u8
         Block::Repeater { .. } | Block::Comparator { .. } | Block::Wire { .. } => {
             weak(build, levels, from, side)
         }
-        _ => 0,
+        Block::Air
+        | Block::Inert { .. }
+        | Block::Slab { .. }
+        | Block::Torch { .. }
+        | Block::WallTorch { .. }
+        | Block::Lever { .. }
+        | Block::Button { .. }
+        | Block::Plate { .. }
+        | Block::RedstoneBlock
+        | Block::Lamp { .. }
+        | Block::Trapdoor { .. }
+        | Block::Container { .. }
+        | Block::Composter { .. }
+        | Block::Cauldron { .. }
+        | Block::Cake { .. }
+        | Block::Weighted { .. }
+        | Block::Note { .. } => 0,
     }
 }
 
@@ -211,7 +238,24 @@ pub fn back<L: Levels>(build: &Build, levels: &L, pos: Pos) -> u8
     match build.at(pos) {
         Block::Repeater { facing, .. } => input(build, levels, pos, facing),
         Block::Comparator { facing, .. } => measured(build, levels, pos, facing),
-        _ => 0,
+        Block::Air
+        | Block::Inert { .. }
+        | Block::Slab { .. }
+        | Block::Wire { .. }
+        | Block::Torch { .. }
+        | Block::WallTorch { .. }
+        | Block::Lever { .. }
+        | Block::Button { .. }
+        | Block::Plate { .. }
+        | Block::RedstoneBlock
+        | Block::Lamp { .. }
+        | Block::Trapdoor { .. }
+        | Block::Container { .. }
+        | Block::Composter { .. }
+        | Block::Cauldron { .. }
+        | Block::Cake { .. }
+        | Block::Weighted { .. }
+        | Block::Note { .. } => 0,
     }
 }
 
@@ -222,7 +266,26 @@ fn turned(block: Block, level: u8, side: Side) -> u8
     match block {
         Block::Repeater { facing, .. } if same_side(facing, side) => full(level),
         Block::Comparator { facing, .. } if same_side(facing, side) => level,
-        _ => 0,
+        Block::Air
+        | Block::Inert { .. }
+        | Block::Slab { .. }
+        | Block::Wire { .. }
+        | Block::Torch { .. }
+        | Block::WallTorch { .. }
+        | Block::Repeater { .. }
+        | Block::Comparator { .. }
+        | Block::Lever { .. }
+        | Block::Button { .. }
+        | Block::Plate { .. }
+        | Block::RedstoneBlock
+        | Block::Lamp { .. }
+        | Block::Trapdoor { .. }
+        | Block::Container { .. }
+        | Block::Composter { .. }
+        | Block::Cauldron { .. }
+        | Block::Cake { .. }
+        | Block::Weighted { .. }
+        | Block::Note { .. } => 0,
     }
 }
 
@@ -264,7 +327,25 @@ pub fn locked<L: Levels>(build: &Build, levels: &L, pos: Pos) -> bool
 {
     match build.at(pos) {
         Block::Repeater { facing, .. } => lock_power(build, levels, pos, facing) > 0,
-        _ => false,
+        Block::Air
+        | Block::Inert { .. }
+        | Block::Slab { .. }
+        | Block::Wire { .. }
+        | Block::Torch { .. }
+        | Block::WallTorch { .. }
+        | Block::Comparator { .. }
+        | Block::Lever { .. }
+        | Block::Button { .. }
+        | Block::Plate { .. }
+        | Block::RedstoneBlock
+        | Block::Lamp { .. }
+        | Block::Trapdoor { .. }
+        | Block::Container { .. }
+        | Block::Composter { .. }
+        | Block::Cauldron { .. }
+        | Block::Cake { .. }
+        | Block::Weighted { .. }
+        | Block::Note { .. } => false,
     }
 }
 
@@ -275,7 +356,24 @@ fn lateral(block: Block, level: u8, side: Side) -> u8
     match block {
         Block::Wire { .. } => level,
         Block::RedstoneBlock => 15,
-        _ => turned(block, level, side),
+        Block::Air
+        | Block::Inert { .. }
+        | Block::Slab { .. }
+        | Block::Torch { .. }
+        | Block::WallTorch { .. }
+        | Block::Repeater { .. }
+        | Block::Comparator { .. }
+        | Block::Lever { .. }
+        | Block::Button { .. }
+        | Block::Plate { .. }
+        | Block::Lamp { .. }
+        | Block::Trapdoor { .. }
+        | Block::Container { .. }
+        | Block::Composter { .. }
+        | Block::Cauldron { .. }
+        | Block::Cake { .. }
+        | Block::Weighted { .. }
+        | Block::Note { .. } => turned(block, level, side),
     }
 }
 
@@ -316,6 +414,24 @@ pub fn side_power<L: Levels>(build: &Build, levels: &L, pos: Pos) -> u8
 {
     match build.at(pos) {
         Block::Comparator { facing, .. } => lateral_power(build, levels, pos, facing),
-        _ => 0,
+        Block::Air
+        | Block::Inert { .. }
+        | Block::Slab { .. }
+        | Block::Wire { .. }
+        | Block::Torch { .. }
+        | Block::WallTorch { .. }
+        | Block::Repeater { .. }
+        | Block::Lever { .. }
+        | Block::Button { .. }
+        | Block::Plate { .. }
+        | Block::RedstoneBlock
+        | Block::Lamp { .. }
+        | Block::Trapdoor { .. }
+        | Block::Container { .. }
+        | Block::Composter { .. }
+        | Block::Cauldron { .. }
+        | Block::Cake { .. }
+        | Block::Weighted { .. }
+        | Block::Note { .. } => 0,
     }
 }

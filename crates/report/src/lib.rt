@@ -147,5 +147,3 @@ impl From<NoMemory> for Fault {
     }
 }
 
-#[cfg(test)]
-mod tests;

@@ -7,8 +7,6 @@ mod laws;
 mod palette;
 mod roots;
 mod stacks;
-#[cfg(test)]
-mod tests;
 mod varint;
 
 pub use laws::{varints_are_shortest, written_is_read, written3_is_read};

@@ -10,8 +10,6 @@ mod palette;
 mod pending;
 mod presence;
 mod reader;
-#[cfg(test)]
-mod tests;
 
 use build::Pos;
 pub use laws::{

@@ -5,8 +5,6 @@ mod clickable;
 mod lines;
 mod play;
 mod reading;
-#[cfg(test)]
-mod tests;
 
 pub use circuit::{Click, Pos, Step};
 pub use clickable::Targets;

@@ -6,7 +6,7 @@ use Rattle.block_table.specs.declared.Side.TheVariants.{Up, Down, North, South, 
 use Rattle.block_table.specs.declared.WireSide.{WireSide}
 use Rattle.block_table.specs.declared.WireSide.TheVariants.{Absent as NoSide}
 use Rattle.block_table.specs.declared.Block.{Block}
-use Rattle.block_table.specs.declared.Block.TheVariants.{Wire, Torch, WallTorch, Repeater, Comparator, Lever, Button, Plate, RedstoneBlock, Weighted}
+use Rattle.block_table.specs.declared.Block.TheVariants.{Air, Inert, Slab, Wire, Torch, WallTorch, Repeater, Comparator, Lever, Button, Plate, RedstoneBlock, Lamp, Trapdoor, Container, Composter, Cauldron, Cake, Weighted, Note}
 use Rattle.block_table.specs.Facts.{opposite}
 use Rattle.circuit.specs.declared.Pos.{Pos}
 use Rattle.build.specs.Place.{beside, same_side}
@@ -33,7 +33,25 @@ is_horizontal _ = true
 
 abbrev pub is_wire : Block → Bool
 is_wire (Wire north east south west power) = true
-is_wire _ = false
+is_wire Air = false
+is_wire (Inert name) = false
+is_wire (Slab name half) = false
+is_wire (Torch lit) = false
+is_wire (WallTorch facing lit) = false
+is_wire (Repeater delay facing powered) = false
+is_wire (Comparator facing subtract) = false
+is_wire (Lever face facing powered) = false
+is_wire (Button name face facing powered) = false
+is_wire (Plate name powered) = false
+is_wire RedstoneBlock = false
+is_wire (Lamp lit) = false
+is_wire (Trapdoor facing top powered) = false
+is_wire (Container name) = false
+is_wire (Composter level) = false
+is_wire (Cauldron water level) = false
+is_wire (Cake bites) = false
+is_wire (Weighted name power) = false
+is_wire (Note powered) = false
 
 abbrev pub wire_at : Plan → Pos → Bool
 wire_at b p = is_wire (block_at b p)
@@ -50,7 +68,16 @@ joins (Weighted name power) side = true
 joins (Lever face facing powered) side = true
 joins (Button name face facing powered) side = true
 joins (Repeater delay facing powered) side = same_side facing side || same_side facing (opposite side)
-joins _ side = false
+joins Air side = false
+joins (Inert name) side = false
+joins (Slab name half) side = false
+joins (Lamp lit) side = false
+joins (Trapdoor facing top powered) side = false
+joins (Container name) side = false
+joins (Composter level) side = false
+joins (Cauldron water level) side = false
+joins (Cake bites) side = false
+joins (Note powered) side = false
 
 -- How a wire is joined on a horizontal side: to what stands there; else up to a wire above its neighbour, unless a solid block
 -- stands above it; else down to a wire below its neighbour, unless that is solid; else not at all.
@@ -75,7 +102,25 @@ is_no_side _ = false
 -- a wire whose stored sides are all `none`
 abbrev pub is_dot : Block → Bool
 is_dot (Wire north east south west power) = is_no_side north && is_no_side east && is_no_side south && is_no_side west
-is_dot _ = false
+is_dot Air = false
+is_dot (Inert name) = false
+is_dot (Slab name half) = false
+is_dot (Torch lit) = false
+is_dot (WallTorch facing lit) = false
+is_dot (Repeater delay facing powered) = false
+is_dot (Comparator facing subtract) = false
+is_dot (Lever face facing powered) = false
+is_dot (Button name face facing powered) = false
+is_dot (Plate name powered) = false
+is_dot RedstoneBlock = false
+is_dot (Lamp lit) = false
+is_dot (Trapdoor facing top powered) = false
+is_dot (Container name) = false
+is_dot (Composter level) = false
+is_dot (Cauldron water level) = false
+is_dot (Cake bites) = false
+is_dot (Weighted name power) = false
+is_dot (Note powered) = false
 
 -- A wire points to each horizontal side that it joins, and to each other one where it joins neither side of the other axis.
 -- A dot that joins nothing points nowhere.

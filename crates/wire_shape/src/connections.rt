@@ -56,7 +56,16 @@ fn joins(block: Block, side: Side) -> bool
         | Block::Button { .. } => true,
         Block::Repeater { facing, .. } => same_side(facing, side)
             || same_side(facing, opposite(side)),
-        _ => false,
+        Block::Air
+        | Block::Inert { .. }
+        | Block::Slab { .. }
+        | Block::Lamp { .. }
+        | Block::Trapdoor { .. }
+        | Block::Container { .. }
+        | Block::Composter { .. }
+        | Block::Cauldron { .. }
+        | Block::Cake { .. }
+        | Block::Note { .. } => false,
     }
 }
 

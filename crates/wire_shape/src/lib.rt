@@ -19,5 +19,3 @@ pub enum Conn {
     Up,
 }
 
-#[cfg(test)]
-mod tests;

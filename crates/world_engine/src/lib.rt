@@ -9,8 +9,6 @@ mod screen;
 mod settle;
 mod sight;
 mod stored;
-#[cfg(test)]
-mod tests;
 mod told;
 mod valued;
 mod world;

@@ -8,8 +8,6 @@ mod front;
 pub mod laws;
 mod lines;
 mod take;
-#[cfg(test)]
-mod tests;
 mod tick;
 
 pub use checking::check;

@@ -1,4 +1,0 @@
-use Rattle.redpile_top.proofs.graph_tests.shows_raw.Given as goal
-
-abbrev pub ghosts-plays_raw : goal.ghosts-plays_raw
-ghosts-plays_raw g a = record { name = a.blank.name; parts = a.blank.parts }
