@@ -16,6 +16,7 @@ ghost use Rattle.graph.specs.Clicks.{HasAnswer, HasWire, IsClickInRange};
 ghost use Rattle.graph.specs.GraphText.{graph_text};
 
 pub use circuit::{Click, Pos};
+pub use kinds::{back_of, can_wait, fixed_at, fixed_out, greatest_number, role_of};
 use node_arena::{Arena, Key};
 use rp_text::{NoMemory, push_bytes};
 pub use sieve::Sieve;
@@ -24,6 +25,7 @@ use std::alloc::Global;
 use std::marker::Model;
 
 mod edits;
+mod kinds;
 pub mod laws;
 mod reads;
 mod sieve;
