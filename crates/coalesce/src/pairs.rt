@@ -70,7 +70,12 @@ fn is_full_or_none(kind: Kind, state: u8) -> bool
         Kind::Lever | Kind::Button { .. } | Kind::Plate | Kind::Torch | Kind::Repeater { .. } =>
             true,
         Kind::Constant => state == 0 || state == 15,
-        _ => false,
+        Kind::Weighted
+        | Kind::Comparator { .. }
+        | Kind::Lamp
+        | Kind::Trapdoor
+        | Kind::Note
+        | Kind::Wire => false,
     }
 }
 

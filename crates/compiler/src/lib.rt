@@ -21,8 +21,6 @@ use std::alloc::Global;
 use unreach::Unreach;
 
 pub mod laws;
-#[cfg(test)]
-mod tests;
 
 /// What the compiler keeps of the nodes that nobody sees.
 #[derive(Clone, Copy, Debug, PartialEq, Eq)]

@@ -3,7 +3,7 @@
 ghost use Rattle.std.specs.Prelude.{◌≡◌, ◌≤◌, EachIndex, slice_index};
 ghost use Rattle.graph.specs.GraphCircuit.{role_of};
 ghost use Rattle.graph.specs.Readings.{back_of};
-ghost use Rattle.graph.specs.Sound.{can_wait};
+ghost use Rattle.graph.specs.Sound.{can_wait, top_of};
 ghost use Rattle.graph.specs.Steps.{fixed, fixed_out};
 
 use crate::{Graph, Kind, NodeKey};
@@ -26,6 +26,25 @@ pub fn role_of(kind: Kind) -> Option<Component>
         Kind::Note => Some(Component::Note),
         Kind::Wire => Some(Component::Wire),
         Kind::Constant => None,
+    }
+}
+
+/// The greatest state of a node of this kind.
+pub fn top_of(kind: Kind) -> u8
+    ensures value { result ≡ top_of (role_of kind) }
+    ensures small { result ≤ 15 }
+{
+    match kind {
+        Kind::Weighted | Kind::Comparator { .. } | Kind::Constant => 15,
+        Kind::Wire => 0,
+        Kind::Lever
+        | Kind::Button { .. }
+        | Kind::Plate
+        | Kind::Torch
+        | Kind::Repeater { .. }
+        | Kind::Lamp
+        | Kind::Trapdoor
+        | Kind::Note => 1,
     }
 }
 

@@ -16,7 +16,7 @@ ghost use Rattle.graph.specs.Clicks.{HasAnswer, HasWire, IsClickInRange};
 ghost use Rattle.graph.specs.GraphText.{graph_text};
 
 pub use circuit::{Click, Pos};
-pub use kinds::{back_of, can_wait, fixed_at, fixed_out, greatest_number, role_of};
+pub use kinds::{back_of, can_wait, fixed_at, fixed_out, greatest_number, role_of, top_of};
 use node_arena::{Arena, Key};
 use rp_text::{NoMemory, push_bytes};
 pub use sieve::Sieve;
@@ -29,8 +29,6 @@ mod kinds;
 pub mod laws;
 mod reads;
 mod sieve;
-#[cfg(test)]
-mod tests;
 mod texts;
 
 /// What a node is. Its state is 0 or 1 (off or on) unless said otherwise.

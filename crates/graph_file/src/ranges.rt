@@ -10,7 +10,7 @@ ghost use Rattle.graph_file.specs.GraphFile.{is_place, is_strength, is_kind, is_
 ghost use Rattle.graph_file.specs.Ranged.{if_so};
 
 use crate::entries::{KindEntry, NodeEntry, Spot};
-use graph::{Kind, Links, Node, Places, Pos};
+use graph::{Kind, Links, Node, Places, Pos, can_wait, top_of};
 use rp_text::NoMemory;
 use smallvec::SmallVec;
 use std::alloc::Global;
@@ -95,44 +95,6 @@ fn kind_of(kind: KindEntry) -> Option<Kind>
     }
 }
 
-// The greatest state.
-fn top(kind: Kind) -> u64
-    ensures value { result ≡ top_of (role_of kind) }
-    ensures small { result ≤ 15 }
-{
-    match kind {
-        Kind::Weighted | Kind::Comparator { .. } | Kind::Constant => 15,
-        Kind::Wire => 0,
-        Kind::Lever
-        | Kind::Button { .. }
-        | Kind::Plate
-        | Kind::Torch
-        | Kind::Repeater { .. }
-        | Kind::Lamp
-        | Kind::Trapdoor
-        | Kind::Note => 1,
-    }
-}
-
-fn can_wait(kind: Kind) -> bool
-    ensures { result ≡ can_wait kind }
-{
-    match kind {
-        Kind::Torch
-        | Kind::Repeater { .. }
-        | Kind::Comparator { .. }
-        | Kind::Lamp
-        | Kind::Button { .. } => true,
-        Kind::Lever
-        | Kind::Plate
-        | Kind::Weighted
-        | Kind::Trapdoor
-        | Kind::Note
-        | Kind::Wire
-        | Kind::Constant => false,
-    }
-}
-
 fn is_tick(kind: Kind, due: u64, priority: u64) -> bool
     ensures { result ≡ is_tick kind due priority }
 {
@@ -159,7 +121,7 @@ pub fn node_of(alloc: Global, entry: NodeEntry, also: &[Spot]) -> Result<Option<
     let Some(kind) = kind_of(entry.kind) else {
         return Ok(None);
     };
-    if entry.state > top(kind) {
+    if entry.state > u64::from(top_of(kind)) {
         return Ok(None);
     }
     if !is_tick(kind, entry.due, entry.priority) {

@@ -7,7 +7,7 @@ ghost use Rattle.graph.specs.GraphCircuit.{role_of};
 ghost use Rattle.graph.specs.Stored.{plain};
 ghost use Rattle.hand_graph.specs.Apart.{LinksAreSound, IsAloneBefore};
 
-use graph::{Graph, Kind, Link, Node, NodeKey};
+use graph::{Graph, Kind, Link, Node, NodeKey, can_wait, top_of};
 use node_arena::Key;
 
 // Whether a graph of so many nodes, none of which was dropped, is sound, where no node stands for
@@ -48,11 +48,7 @@ fn is_sound_node(graph: &Graph, node: &Node) -> bool
 fn fits(kind: Kind, state: u8) -> bool
     ensures { IsTrue result → state ≤ top_of (role_of kind) }
 {
-    match kind {
-        Kind::Constant | Kind::Comparator { .. } | Kind::Weighted => state <= 15,
-        Kind::Wire => state == 0,
-        _ => state <= 1,
-    }
+    state <= top_of(kind)
 }
 
 fn is_in_range(kind: Kind) -> bool
@@ -62,7 +58,15 @@ fn is_in_range(kind: Kind) -> bool
         Kind::Button { delay } => delay == 10 || delay == 15,
         Kind::Repeater { delay } => delay >= 1 && delay <= 4,
         Kind::Comparator { direct, far, .. } => is_power(direct) && is_power(far),
-        _ => true,
+        Kind::Lever
+        | Kind::Plate
+        | Kind::Weighted
+        | Kind::Torch
+        | Kind::Lamp
+        | Kind::Trapdoor
+        | Kind::Note
+        | Kind::Wire
+        | Kind::Constant => true,
     }
 }
 
@@ -85,19 +89,6 @@ fn tick_fits(kind: Kind, due: u8, priority: u8) -> bool
         priority == 0
     } else {
         due <= 15 && priority <= 3 && can_wait(kind)
-    }
-}
-
-fn can_wait(kind: Kind) -> bool
-    ensures { result ≡ can_wait kind }
-{
-    match kind {
-        Kind::Torch
-        | Kind::Repeater { .. }
-        | Kind::Comparator { .. }
-        | Kind::Lamp
-        | Kind::Button { .. } => true,
-        _ => false,
     }
 }
 

@@ -8,7 +8,7 @@ ghost use Rattle.graph.specs.Sound.{IsSound, can_wait, top_of};
 ghost use Rattle.graph.specs.Stored.{plain};
 ghost use Rattle.plain_machine.specs.Good.{is_small, is_kind_good, is_tick_good, is_link_good, is_alone, is_node_good, is_entry_good, is_key_good, is_good};
 
-use graph::{Graph, Kind, Link, Node, NodeKey};
+use graph::{Graph, Kind, Link, Node, NodeKey, can_wait, top_of};
 use rp_text::NoMemory;
 
 fn is_small(strength: Option<u8>) -> bool
@@ -27,31 +27,15 @@ fn is_kind_good(kind: Kind) -> bool
         Kind::Button { delay } => delay == 10 || delay == 15,
         Kind::Repeater { delay } => 1 <= delay && delay <= 4,
         Kind::Comparator { direct, far, .. } => is_small(direct) && is_small(far),
-        _ => true,
-    }
-}
-
-/// The greatest state of a node.
-pub fn top_of(kind: Kind) -> u8
-    ensures { result ≡ top_of (role_of kind) }
-{
-    match kind {
-        Kind::Weighted | Kind::Comparator { .. } | Kind::Constant => 15,
-        Kind::Wire => 0,
-        _ => 1,
-    }
-}
-
-fn can_wait(kind: Kind) -> bool
-    ensures { result ≡ can_wait kind }
-{
-    match kind {
-        Kind::Torch
-        | Kind::Repeater { .. }
-        | Kind::Comparator { .. }
+        Kind::Lever
+        | Kind::Plate
+        | Kind::Weighted
+        | Kind::Torch
         | Kind::Lamp
-        | Kind::Button { .. } => true,
-        _ => false,
+        | Kind::Trapdoor
+        | Kind::Note
+        | Kind::Wire
+        | Kind::Constant => true,
     }
 }
 

@@ -2,33 +2,11 @@
 //! all nodes attend.
 
 ghost use Rattle.std.specs.Prelude.{◌≡◌, ◌≤◌};
-ghost use Rattle.graph.specs.GraphCircuit.{role_of};
 
-use crate::good::top_of;
-use circuit::{Act, Cell, Click, Component, Pos, Readings};
-use graph::{Graph, Group, Kind, Link, Node, NodeKey};
+use circuit::{Act, Cell, Click, Pos, Readings};
+use graph::{Graph, Group, Kind, Link, Node, NodeKey, back_of, role_of, top_of};
 use rp_text::NoMemory;
 use std::alloc::Global;
-
-/// The component that a node is.
-fn role_of(kind: Kind) -> Option<Component>
-    ensures { result ≡ role_of kind }
-{
-    match kind {
-        Kind::Lever => Some(Component::Lever),
-        Kind::Button { delay } => Some(Component::Button { delay }),
-        Kind::Plate => Some(Component::Plate),
-        Kind::Weighted => Some(Component::Weighted),
-        Kind::Torch => Some(Component::Torch),
-        Kind::Repeater { delay } => Some(Component::Repeater { delay }),
-        Kind::Comparator { subtract, .. } => Some(Component::Comparator { subtract }),
-        Kind::Lamp => Some(Component::Lamp),
-        Kind::Trapdoor => Some(Component::Trapdoor),
-        Kind::Note => Some(Component::Note),
-        Kind::Wire => Some(Component::Wire),
-        Kind::Constant => None,
-    }
-}
 
 /// What the nodes hold.
 #[derive(Drop)]
@@ -90,17 +68,6 @@ fn strongest(links: &[Link], group: Group, outs: &[u8]) -> u8 {
         strongest = brought(*link, group, outs).max(strongest);
     }
     strongest
-}
-
-fn back_of(kind: Kind, power: u8) -> u8 {
-    match kind {
-        Kind::Comparator {
-            direct: Some(direct),
-            ..
-        } => direct,
-        Kind::Comparator { far: Some(far), .. } if power < 15 => far,
-        _ => power,
-    }
 }
 
 fn readings(node: &Node, outs: &[u8]) -> Readings {

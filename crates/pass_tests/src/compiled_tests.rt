@@ -1,89 +1,10 @@
 //! The graphs of small builds, as text. The texts were derived by hand from the rules of nodes, taps,
 //! distances and passes.
 
-use crate::{Keep, compile_build, raw_graph};
-use block_table::{Block, parse_state};
-use build::{Build, Marks, NewRefusal};
-use circuit::Pos;
-use rp_text::NoMemory;
-use std::alloc::Global;
-use std::process::Abort;
+use crate::small_builds::{assert_raw, at, box_of, floored, store};
+use build::Marks;
+use compiler::{Keep, compile_build};
 use std::test::Fail;
-
-fn at(x: i32, y: i32, z: i32) -> Pos {
-    Pos { x, y, z }
-}
-
-fn put(rt: &impl Abort, build: &mut Build, pos: Pos, state: &str) {
-    let block = parse_state(state.as_bytes()).expect(rt, "a block of the table");
-    assert!(rt; build.contains(pos));
-    build.set(pos, block);
-}
-
-// A box with these blocks.
-fn box_of(
-    rt: &impl Abort,
-    alloc: Global,
-    size: Pos,
-    blocks: &[(Pos, &str)],
-) -> Result<Build, NewRefusal> {
-    let width = u16::try_from(size.x).unwrap_or(0);
-    let height = u16::try_from(size.y).unwrap_or(0);
-    let length = u16::try_from(size.z).unwrap_or(0);
-    let mut build = Build::new(alloc, width, height, length, 0)?;
-    for (pos, state) in blocks {
-        put(rt, &mut build, *pos, state);
-    }
-    Ok(build)
-}
-
-// A box with these blocks over a floor of stone.
-fn floored(
-    rt: &impl Abort,
-    alloc: Global,
-    size: Pos,
-    blocks: &[(Pos, &str)],
-) -> Result<Build, NewRefusal> {
-    let mut build = box_of(rt, alloc, size, blocks)?;
-    for z in 0..size.z {
-        for x in 0..size.x {
-            put(rt, &mut build, at(x, 0, z), "stone");
-        }
-    }
-    Ok(build)
-}
-
-fn store(rt: &impl Abort, build: &mut Build, pos: Pos, strength: u8) -> Result<(), NoMemory> {
-    assert!(rt; strength <= 15);
-    match build.at(pos) {
-        Block::Container { .. } => build.set_strength(pos, strength),
-        _ => panic!(rt; "no container at {pos:?}"),
-    }
-}
-
-fn marks_of(alloc: Global, places: &[Pos]) -> Result<Marks, NoMemory> {
-    let mut marks = Marks::new(alloc);
-    for pos in places {
-        marks.add(*pos)?;
-    }
-    Ok(marks)
-}
-
-// The raw graph of the build has this text.
-fn assert_raw(
-    rt: &impl Abort,
-    alloc: Global,
-    build: &Build,
-    marks: &[Pos],
-    want: &[u8],
-) -> Result<(), NoMemory> {
-    let marks = marks_of(alloc, marks)?;
-    let graph = raw_graph(alloc, build, &marks)?;
-    let mut text = Vec::new(alloc);
-    graph.push_text(&mut text)?;
-    assert_eq!(rt; text.as_slice(), want);
-    Ok(())
-}
 
 #[test]
 fn lever_and_lamp(rt: HostRuntime) -> Result<(), Fail> {
@@ -125,89 +46,6 @@ fn lever_torch_and_lamp(rt: HostRuntime) -> Result<(), Fail> {
         node 1 torch 2 0 0 1\n\
         node 2 lamp 3 0 0 0\n\
         link 0 1 back 0\n\
-        link 1 2 back 0\n",
-    )?;
-    Ok(())
-}
-
-// No more than 15 steps are looked at.
-#[test]
-fn wire_length(rt: HostRuntime) -> Result<(), Fail> {
-    let blocks = [(at(0, 1, 0), "lever[face=floor]")];
-    let mut build = floored(&rt, rt.alloc(), at(18, 2, 1), &blocks)?;
-    for x in 1..18 {
-        put(&rt, &mut build, at(x, 1, 0), "redstone_wire");
-    }
-    assert_raw(
-        &rt,
-        rt.alloc(),
-        &build,
-        &[at(15, 1, 0), at(16, 1, 0), at(17, 1, 0)],
-        b"graph 4 2\n\
-        node 0 lever 0 1 0 0\n\
-        node 1 wire 15 1 0 0\n\
-        node 2 wire 16 1 0 0\n\
-        node 3 wire 17 1 0 0\n\
-        link 0 1 back 14\n\
-        link 0 2 back 15\n",
-    )?;
-    Ok(())
-}
-
-// Power goes up over glass and doesn't come down, and the nearer lever comes first.
-#[test]
-fn power_goes_up_over_glass(rt: HostRuntime) -> Result<(), Fail> {
-    let blocks = [
-        (at(0, 1, 0), "lever[face=floor]"),
-        (at(1, 1, 0), "redstone_wire"),
-        (at(2, 1, 0), "glass"),
-        (at(3, 1, 0), "stone"),
-        (at(2, 2, 0), "redstone_wire"),
-        (at(3, 2, 0), "lever[face=floor]"),
-    ];
-    let build = floored(&rt, rt.alloc(), at(4, 3, 1), &blocks)?;
-    assert_raw(
-        &rt,
-        rt.alloc(),
-        &build,
-        &[at(1, 1, 0), at(2, 2, 0)],
-        b"graph 4 3\n\
-        node 0 lever 0 1 0 0\n\
-        node 1 wire 1 1 0 0\n\
-        node 2 wire 2 2 0 0\n\
-        node 3 lever 3 2 0 0\n\
-        link 0 1 back 0\n\
-        link 3 2 back 0\n\
-        link 0 2 back 1\n",
-    )?;
-    Ok(())
-}
-
-// Two taps of one read place bring a link each.
-#[test]
-fn two_ways_into_one_block(rt: HostRuntime) -> Result<(), Fail> {
-    let blocks = [
-        (at(0, 1, 0), "lever[face=floor]"),
-        (at(1, 1, 0), "redstone_wire"),
-        (at(2, 1, 0), "redstone_wire"),
-        (at(3, 1, 0), "redstone_wire"),
-        (at(4, 1, 0), "stone"),
-        (at(5, 1, 0), "comparator[facing=west]"),
-        (at(6, 1, 0), "redstone_lamp"),
-        (at(4, 2, 0), "redstone_wire"),
-    ];
-    let build = floored(&rt, rt.alloc(), at(7, 3, 1), &blocks)?;
-    assert_raw(
-        &rt,
-        rt.alloc(),
-        &build,
-        &[],
-        b"graph 3 3\n\
-        node 0 lever 0 1 0 0\n\
-        node 1 comparator 5 1 0 0 compare\n\
-        node 2 lamp 6 1 0 0\n\
-        link 0 1 back 3\n\
-        link 0 1 back 2\n\
         link 1 2 back 0\n",
     )?;
     Ok(())
@@ -483,31 +321,6 @@ fn merged_comparators(rt: HostRuntime) -> Result<(), Fail> {
     Ok(())
 }
 
-#[test]
-fn wire_square(rt: HostRuntime) -> Result<(), Fail> {
-    let blocks = [
-        (at(0, 1, 0), "lever[face=floor]"),
-        (at(1, 1, 0), "redstone_wire"),
-        (at(2, 1, 0), "redstone_wire"),
-        (at(1, 1, 1), "redstone_wire"),
-        (at(2, 1, 1), "redstone_wire"),
-    ];
-    let build = floored(&rt, rt.alloc(), at(4, 2, 2), &blocks)?;
-    assert_raw(
-        &rt,
-        rt.alloc(),
-        &build,
-        &[at(1, 1, 0), at(2, 1, 1)],
-        b"graph 3 2\n\
-        node 0 lever 0 1 0 0\n\
-        node 1 wire 1 1 0 0\n\
-        node 2 wire 2 1 1 0\n\
-        link 0 1 back 0\n\
-        link 0 2 back 2\n",
-    )?;
-    Ok(())
-}
-
 // The sides of a comparator take a wire and a block of redstone, in the order of sides.
 #[test]
 fn comparator_sides(rt: HostRuntime) -> Result<(), Fail> {
@@ -534,36 +347,6 @@ fn comparator_sides(rt: HostRuntime) -> Result<(), Fail> {
         link 0 2 side 0\n\
         link 1 2 side 1\n\
         link 2 3 back 0\n",
-    )?;
-    Ok(())
-}
-
-// The links of each tap stand behind those of the taps before it. A mark where no wire stands counts
-// for nothing.
-#[test]
-fn lamp_under_a_wire(rt: HostRuntime) -> Result<(), Fail> {
-    let blocks = [
-        (at(0, 0, 0), "stone"),
-        (at(1, 0, 0), "redstone_lamp"),
-        (at(2, 0, 0), "stone"),
-        (at(3, 0, 0), "stone"),
-        (at(0, 1, 0), "redstone_wire"),
-        (at(1, 1, 0), "redstone_wire"),
-        (at(2, 1, 0), "redstone_wire"),
-        (at(3, 1, 0), "lever[face=floor]"),
-    ];
-    let build = box_of(&rt, rt.alloc(), at(4, 2, 1), &blocks)?;
-    assert_raw(
-        &rt,
-        rt.alloc(),
-        &build,
-        &[at(0, 0, 0)],
-        b"graph 2 3\n\
-        node 0 lamp 1 0 0 0\n\
-        node 1 lever 3 1 0 0\n\
-        link 1 0 back 1\n\
-        link 1 0 back 2\n\
-        link 1 0 back 0\n",
     )?;
     Ok(())
 }

@@ -2,7 +2,7 @@
 
 ghost use Rattle.std.specs.Prelude.{◌≡◌, ◌<◌, [], length, IfOk};
 
-use crate::{Click, Graph, Group, Kind, Link, Links, Node, NodeKey, Places, Pos};
+use graph::{Click, Graph, Group, Kind, Link, Links, Node, NodeKey, Places, Pos};
 use node_arena::Key;
 use rp_text::NoMemory;
 use smallvec::SmallVec;
