@@ -1,7 +1,10 @@
 //! Builds, marks and outputs.
 
-use build::{Build, Marks, NewRefusal, OutKind, OutPlace, Pending, PendingRefusal, Pos, beside, is_ticking, outputs};
 use block_table::{Block, Side, parse_state};
+use build::{
+    Build, Marks, NewRefusal, OutKind, OutPlace, Pending, PendingRefusal, Pos, beside, is_ticking,
+    outputs,
+};
 use packed_block::PackedBlock;
 use rp_text::NoMemory;
 use std::alloc::Global;

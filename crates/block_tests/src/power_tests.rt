@@ -3,10 +3,12 @@
 ghost use Rattle.std.specs.Prelude.{if◌then◌else◌, min};
 ghost use Rattle.build.specs.Place.{same_place};
 
-use power_rules::{Levels, Pos, back, faces_diode, goal, locked, read_no_dust, read_power, readings, strong, weak};
 use block_table::{Side, parse_state};
 use build::{Build, NewRefusal};
 use circuit::Readings;
+use power_rules::{
+    Levels, Pos, back, faces_diode, goal, locked, read_no_dust, read_power, readings, strong, weak,
+};
 use std::alloc::Global;
 use std::process::Abort;
 use std::test::Fail;

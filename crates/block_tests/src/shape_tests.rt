@@ -1,12 +1,12 @@
 //! How wires join and feed each other.
 
-use wire_shape::{Conn, connection, feeders_of, points, wire_at};
 use block_table::{Side, parse_state};
 use build::{Build, NewRefusal};
 use circuit::Pos;
 use std::alloc::Global;
 use std::process::Abort;
 use std::test::Fail;
+use wire_shape::{Conn, connection, feeders_of, points, wire_at};
 
 fn at(x: i32, y: i32, z: i32) -> Pos {
     Pos { x, y, z }

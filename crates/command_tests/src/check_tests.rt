@@ -1,8 +1,8 @@
 //! Texts of orders that are checked.
 
-use redpile_top::Status;
 use crate::row_tests::{TWINS, box_of};
 use crate::support::{Faults, NONE, Outcome, by, call, gate_file, is_refused, writes};
+use redpile_top::Status;
 use schem_write::{write_build, write_build3};
 use std::alloc::Global;
 use std::process::Abort;

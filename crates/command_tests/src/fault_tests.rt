@@ -1,6 +1,9 @@
 //! Sinks and inputs that fail.
 
-use crate::support::{COMPILE, Faults, NONE, RUN, TWO_CLICKS, WORLD, by, call, is_refused, lever_and_lamp_file, writes};
+use crate::support::{
+    COMPILE, Faults, NONE, RUN, TWO_CLICKS, WORLD, by, call, is_refused, lever_and_lamp_file,
+    writes,
+};
 use redpile_top::Status;
 use std::alloc::Global;
 use std::process::Abort;

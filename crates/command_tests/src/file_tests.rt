@@ -1,6 +1,10 @@
 //! Files of builds: what is refused by which line, and what is read.
 
-use crate::support::{EMPTY_BOX, EMPTY_COUNTS, EMPTY_VIEWS, NONE, STONE, box_of, ended, is_accepted, is_bad, is_refused, joined, lever_and_lamp_file, pending, refuses, row_fields, run, shows, unknown_block_file};
+use crate::support::{
+    EMPTY_BOX, EMPTY_COUNTS, EMPTY_VIEWS, NONE, STONE, box_of, ended, is_accepted, is_bad,
+    is_refused, joined, lever_and_lamp_file, pending, refuses, row_fields, run, shows,
+    unknown_block_file,
+};
 use redpile_top::Status;
 use rp_text::push_u64;
 use std::alloc::Global;

@@ -1,6 +1,9 @@
 //! A box of air, and a lever beside lamps and torches, by each command.
 
-use crate::support::{EMPTY_BOX, EMPTY_COUNTS, EMPTY_VIEWS, Faults, LAMP, LEVER, NONE, STONE, TORCH, TWO_CLICKS, by, call, compile, joined, lever_and_lamp_file, pending, row_of, run, shows, world, writes};
+use crate::support::{
+    EMPTY_BOX, EMPTY_COUNTS, EMPTY_VIEWS, Faults, LAMP, LEVER, NONE, STONE, TORCH, TWO_CLICKS, by,
+    call, compile, joined, lever_and_lamp_file, pending, row_of, run, shows, world, writes,
+};
 use std::test::Fail;
 
 #[test]

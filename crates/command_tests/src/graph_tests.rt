@@ -4,10 +4,10 @@ ghost use Rattle.std.specs.Prelude.{◌≡◌, ◌<◌};
 
 use crate::row_tests::{Cell, box_of, floored, locked, long_wire, two_ways};
 use crate::support::{NONE, compile, shows, writes};
-use redpile_top::{play, raw_graph};
 use block_table::Block;
 use build::{Build, Pos, outputs};
 use player::Steps;
+use redpile_top::{play, raw_graph};
 use rp_io::{Calls, MemSink};
 use schem_write::{write_build, write_build3};
 use script::read_script;

@@ -1,8 +1,10 @@
 //! Runs that show their order, and the pieces that the sinks are handed.
 
-use redpile_top::Status;
 use crate::row_tests::{TWINS, box_of};
-use crate::support::{Faults, NONE, by, gate_file, lever_and_lamp_file, unknown_block_file, writes};
+use crate::support::{
+    Faults, NONE, by, gate_file, lever_and_lamp_file, unknown_block_file, writes,
+};
+use redpile_top::Status;
 use schem_write::{write_build, write_build3};
 use std::alloc::Global;
 use std::process::Abort;

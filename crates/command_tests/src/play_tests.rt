@@ -1,8 +1,8 @@
 //! Graph files that are played.
 
-use redpile_top::Status;
 use crate::row_tests::locked;
 use crate::support::{Faults, NONE, Outcome, by, call, is_refused, lever_and_lamp_file, writes};
+use redpile_top::Status;
 use schem_write::write_build;
 use std::alloc::Global;
 use std::process::Abort;

@@ -1,9 +1,9 @@
 //! The worked rows that are played, from files of both layouts.
 
-use redpile_top::Status;
 use crate::support::{NONE, by, gate_file, is_refused, run, shows, world, writes};
 use block_table::{Block, parse_state};
 use build::{Build, Pending, Pos};
+use redpile_top::Status;
 use schem_write::{write_build, write_build3};
 use std::alloc::Global;
 use std::process::Abort;

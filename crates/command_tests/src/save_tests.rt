@@ -1,9 +1,9 @@
 //! Builds that are saved at the end of a run.
 
-use redpile_top::Status;
 use crate::row_tests::{TWINS, before_lamp, box_of, put, wait};
 use crate::support::{NONE, by, gate_file, is_refused, run, unknown_block_file, writes};
 use build::Pos;
+use redpile_top::Status;
 use schem_write::{write_build, write_build3};
 use schematic::read_build;
 use std::alloc::Global;

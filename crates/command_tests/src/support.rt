@@ -289,7 +289,12 @@ pub(crate) fn is_refused(outcome: &Outcome, status: Status, line: &[u8]) -> bool
 }
 
 /// Whether each command with a script of one tick refuses this file by this status and line.
-pub(crate) fn refuses(alloc: Global, build: &[u8], status: Status, line: &[u8]) -> Result<bool, Fail> {
+pub(crate) fn refuses(
+    alloc: Global,
+    build: &[u8],
+    status: Status,
+    line: &[u8],
+) -> Result<bool, Fail> {
     let mut refused = true;
     for words in [RUN, WORLD, COMPILE] {
         let outcome = by(alloc, words, build, b"tick 1", NONE)?;

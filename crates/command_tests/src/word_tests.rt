@@ -1,6 +1,8 @@
 //! Scripts, words of the command line and codes of statuses.
 
-use crate::support::{COMPILE, EMPTY_BOX, NONE, RUN, WORLD, by, call, is_refused, lever_and_lamp_file, run};
+use crate::support::{
+    COMPILE, EMPTY_BOX, NONE, RUN, WORLD, by, call, is_refused, lever_and_lamp_file, run,
+};
 use redpile_top::Status;
 use std::alloc::Global;
 use std::process::Abort;

@@ -3,9 +3,9 @@
 ghost use Rattle.std.specs.Prelude.{◌≡◌, ◌<◌};
 ghost use Rattle.graph.specs.Sound.{IsSound};
 
-use graph_machine::{Fired, Machine, Steps, Wait};
 use circuit::{Click, Pos};
 use graph::{Graph, Kind, NodeKey};
+use graph_machine::{Fired, Machine, Steps, Wait};
 use hand_graph::{back, sound_graph};
 use rp_text::NoMemory;
 use std::alloc::Global;

@@ -1,6 +1,5 @@
 //! Texts of orders of small builds, and what is wrong with others. The texts were derived by hand.
 
-use world_order::{Checked, OrderRefusal, check};
 use block_table::parse_state;
 use build::{Build, Pos};
 use report::OrderKind;
@@ -8,6 +7,7 @@ use script::read_script;
 use std::alloc::Global;
 use std::process::Abort;
 use std::test::Fail;
+use world_order::{Checked, OrderRefusal, check};
 
 // A lever on a block that turns off a repeater and a torch.
 const REPEATER_AND_TORCH: [(i32, &str); 4] = [

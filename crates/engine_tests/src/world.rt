@@ -1,12 +1,12 @@
 //! Rows of worked builds, played by the calls of World.
 
-use world_engine::World;
 use block_table::parse_state;
 use build::{Build, Marks};
 use circuit::{Click, Pos};
 use std::alloc::Global;
 use std::process::Abort;
 use std::test::Fail;
+use world_engine::World;
 
 fn pos(x: i32, y: i32, z: i32) -> Pos {
     Pos { x, y, z }

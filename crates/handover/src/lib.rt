@@ -18,8 +18,6 @@ mod given;
 mod held;
 pub mod laws;
 mod notes;
-#[cfg(test)]
-mod tests;
 mod values;
 
 /// The build with what the nodes hold at the end of a run. Each node but Constants and wires

@@ -51,7 +51,12 @@ pub(crate) fn floored(
     Ok(build)
 }
 
-pub(crate) fn store(rt: &impl Abort, build: &mut Build, pos: Pos, strength: u8) -> Result<(), NoMemory> {
+pub(crate) fn store(
+    rt: &impl Abort,
+    build: &mut Build,
+    pos: Pos,
+    strength: u8,
+) -> Result<(), NoMemory> {
     assert!(rt; strength <= 15);
     match build.at(pos) {
         Block::Container { .. } => build.set_strength(pos, strength),

@@ -1,6 +1,9 @@
 //! What containers and comparators hold by their block entities.
 
-use crate::spelling::{COMPARATOR, Spelled, Spelling, accepted, accepted_fields, byte, compound, count, fields_of, file_of, int, ints, list_of, palette, pos, put, put_text, refused, row_of, short, tag};
+use crate::spelling::{
+    COMPARATOR, Spelled, Spelling, accepted, accepted_fields, byte, compound, count, fields_of,
+    file_of, int, ints, list_of, palette, pos, put, put_text, refused, row_of, short, tag,
+};
 use block_table::{Block, Face, Side};
 use build::Pos;
 use schematic::BuildRefusal;

@@ -1,7 +1,7 @@
 //! Files that are read and written back, each refusal at its first place, and what JSON is.
 
-use graph_file::{from_bytes, from_value, to_text, to_value};
 use graph::Graph;
+use graph_file::{from_bytes, from_value, to_text, to_value};
 use report::{GraphKind, GraphRefusal};
 use std::alloc::Global;
 use std::process::Abort;

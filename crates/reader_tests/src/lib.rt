@@ -1,4 +1,4 @@
-//! Tests of what is read and written: tags, builds, scripts, graph files and lines.
+//! Tests of what is read and written: files, tags, builds, scripts, graph files and lines.
 #![tactic(auto)]
 
 #[cfg(test)]
@@ -7,6 +7,8 @@ mod entity_tests;
 mod fault_line_tests;
 #[cfg(test)]
 mod graph_file_tests;
+#[cfg(test)]
+mod io_tests;
 #[cfg(test)]
 mod nbt_tests;
 #[cfg(test)]

@@ -1,7 +1,9 @@
 //! Lines of views, trailers, summaries and firings.
 
-use build::{Pos, Click, OutKind, OutPlace};
-use report::{Cause, Counts, LineBuf, push_fire, push_header, push_summary, push_trailer, push_view};
+use build::{Click, OutKind, OutPlace, Pos};
+use report::{
+    Cause, Counts, LineBuf, push_fire, push_header, push_summary, push_trailer, push_view,
+};
 use std::test::Fail;
 
 #[test]

@@ -1,6 +1,9 @@
 //! The worked rows on files, over roots that are made here and written by `nbt`.
 
-use crate::spelling::{EMPTY_BOX, EMPTY_BOX_LAYOUT_3, LAMP, LEVER, Spelling, accepted, byte, bytes, compound, fields_of, fields_without, int, ints, palette, put, refused, refused_fields, row_of, tag};
+use crate::spelling::{
+    EMPTY_BOX, EMPTY_BOX_LAYOUT_3, LAMP, LEVER, Spelling, accepted, byte, bytes, compound,
+    fields_of, fields_without, int, ints, palette, put, refused, refused_fields, row_of, tag,
+};
 use block_table::Block;
 use nbt::NbtKind;
 use schematic::{BuildRefusal, FieldName};

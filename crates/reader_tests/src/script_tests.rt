@@ -1,8 +1,10 @@
 //! Scripts, and what is refused of them.
 
-use script::{Act, Click, Pos, Script, ScriptKind, ScriptRefusal, Step, read_script, read_script_on};
 use block_table::parse_state;
 use build::{Build, Marks};
+use script::{
+    Act, Click, Pos, Script, ScriptKind, ScriptRefusal, Step, read_script, read_script_on,
+};
 use std::alloc::Global;
 use std::process::Abort;
 use std::test::Fail;

@@ -1,9 +1,11 @@
 //! Builds that are written and read.
 
-use schem_write::{varints_are_shortest, write_build, write_build3, written_is_read, written3_is_read};
 use block_table::{Block, parse_state};
 use build::{Build, Pending, Pos};
 use rp_text::NoMemory;
+use schem_write::{
+    varints_are_shortest, write_build, write_build3, written_is_read, written3_is_read,
+};
 use schematic::read_build;
 use std::alloc::Global;
 use std::process::Abort;

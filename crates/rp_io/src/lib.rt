@@ -12,8 +12,6 @@
 mod files;
 mod memory;
 mod sinks;
-#[cfg(test)]
-mod tests;
 mod traits;
 mod whole;
 

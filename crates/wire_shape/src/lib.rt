@@ -18,4 +18,3 @@ pub enum Conn {
     /// To the wire above its neighbour.
     Up,
 }
-

@@ -1,4 +1,9 @@
-use crate::*;
+//! Sources and sinks, and how a file is read whole.
+
+use rp_io::{
+    Calls, CountSink, Failed, FileInputs, Files, Inputs, MemInputs, MemSink, ReadFailed,
+    ReadRefusal, Sink, StdSink, SureInputs, WriteFault, put_all, read_whole,
+};
 use rp_text::Raw;
 use std::alloc::{AllocError, Global};
 use std::test::Fail;

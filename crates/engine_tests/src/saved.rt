@@ -1,9 +1,12 @@
 //! Builds that are saved at the start of their run.
 
-use super::*;
 use block_table::{Block, parse_state};
-use build::{Marks, NewRefusal, Pending, Pos};
+use build::{Build, Marks, NewRefusal, Pending, Pos};
 use compiler::{Keep, compile_build};
+use graph_machine::Machine;
+use handover::give_back;
+use rp_text::NoMemory;
+use std::alloc::Global;
 use std::process::Abort;
 use std::test::Fail;
 

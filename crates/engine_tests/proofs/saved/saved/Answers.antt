@@ -6,7 +6,7 @@ use Rattle.graph.specs.GraphCircuit.{graph_circuit}
 use Rattle.compiler.proofs.BuildPlaces.{compiled_blocks}
 use Rattle.compiler.proofs.CompiledLaws.{compiled_sound}
 use Rattle.handover.specs.Ended.{IsPlayed}
-use Rattle.handover.proofs.tests.saved.Goals as goal
+use Rattle.engine_tests.proofs.saved.saved.Goals as goal
 
 pub start-requires : goal.start-requires
 start-requires c = compiled_sound c.args.build.now c.cells.ensures.whole _ _ c.in_ok-graph.graph.nodes c.in_ok-graph.ensures
