@@ -1,7 +1,8 @@
 -- Going over the links of a node, with the least weights of those that are still to come.
-use Rattle.std.proofs.Common.{◌≡◌, ◌≢◌, ℕ, zero, suc, ◌+◌, ◌-◌, ◌*◌, ◌<◌, ◌≤◌, List, [], ◌∷◌, Option, Some, None, refl, sym, ap, ◌∙◌, subst, arith, set, length, get_or, ◌⊎◌, inl, inr}
+use Rattle.std.proofs.Common.{◌≡◌, ◌≢◌, ℕ, zero, suc, ◌+◌, ◌-◌, ◌*◌, ◌<◌, ◌≤◌, true, false, take, List, [], ◌∷◌, Option, Some, None, refl, sym, ap, ◌∙◌, subst, arith, set, length, get_or, ◌⊎◌, inl, inr}
 use Rattle.std.specs.Prelude.{remove, slice_get, min, nat_lt, IsSome}
-use Rattle.std.proofs.lemmas.Bool.{cases_eq, cases_Bool, ltb-true, ltb-false, false≢true}
+use Rattle.std.specs.List.{list_any}
+use Rattle.std.proofs.lemmas.Bool.{cases_eq, cases_Bool, eq-eqb, ltb-true, ltb-false, false≢true}
 use Rattle.std.proofs.lemmas.List.{get_or-set_other, get_or-set_same, length-set}
 use Rattle.graph.specs.declared.Group.{Group}
 use Rattle.graph.specs.declared.Group.TheVariants.{Back, Side}
@@ -11,13 +12,15 @@ use Rattle.graph.specs.Graph.{Node, Nodes, node_at, Lives, HasLink}
 use Rattle.graph.specs.Edits.{drop_link}
 use Rattle.graph.specs.Sound.{IsSound}
 use Rattle.graph.specs.LinkAt.{links_of}
+use Rattle.graph.specs.Links.{is_group}
 use Rattle.graph.specs.Steps.{Dedups}
 use Rattle.graph.proofs.LinkSteps.{has_link, within_links, beyond_links, slice_get-before, slice_get-behind}
 use Rattle.graph.proofs.LinkDrops.{left_was_there}
 use Rattle.pass_frame.specs.Frame.{IsDone}
 use Rattle.pass_frame.proofs.Sweeps.{index_of_key}
-use Rattle.clamp_dedup.specs.Single.{IsSingle}
+use Rattle.clamp_dedup.specs.Single.{is_beside, AreSingle, IsSingle}
 use Rattle.clamp_dedup.specs.Weights.{group_number, slot_of, weight_in, lesser, IsEmpty, HasSlots, HasSlotsFor, HoldsLeast}
+use Rattle.clamp_dedup.proofs.NonePasses.{none_passes}
 
 -- a slot belongs to one source and one group
 pub slot-apart : (a b : Link) → slot_of a ≡ slot_of b → (a.from ≡ b.from) × (a.group ≡ b.group)
@@ -275,6 +278,43 @@ rest_single links index slots rest end i j a b e f from group =
   where
     order : (i j : ℕ) → i ≢ j → (i < j) ⊎ (j < i)
     order i j n = elim (cases_Bool (nat_lt i j)) [ inl h ↦ inl (ltb-true i j h) | inr h ↦ (let le = ltb-false i j h in inr (omega arith)) ]
+
+-- Of the first links no two come from one source in one group.
+abbrev pub SingleBelow : List Link → ℕ → Type 0
+SingleBelow links count = (i j : ℕ) (a b : Link) → i < count → j < count → slice_get links i ≡ Some a → slice_get links j ≡ Some b → a.from ≡ b.from → a.group ≡ b.group → i ≡ j
+
+slice_get-take : (links : List Link) (count index : ℕ) → index < count → slice_get (take count links) index ≡ slice_get links index
+slice_get-take links zero index h = absurd (omega arith)
+slice_get-take [] (suc count) index h = refl
+slice_get-take (l ∷ links) (suc count) zero h = refl
+slice_get-take (l ∷ links) (suc count) (suc index) h = slice_get-take links count index (omega arith)
+
+pub single_next : (links : List Link) (count : ℕ) (link : Link) → SingleBelow links count → slice_get links count ≡ Some link → list_any (is_beside link) (take count links) ≡ false → SingleBelow links (count + 1)
+single_next links count link before here none i j a b h k e f from group = elim (cases_eq i count) [
+  | inl i_now ↦ elim (cases_eq j count) [
+    | inl j_now ↦ i_now ∙ sym j_now
+    | inr m ↦ absurd (differ a b j (same i a e i_now) (omega arith) f from group)
+  ]
+  | inr n ↦ elim (cases_eq j count) [
+    | inl j_now ↦ absurd (differ b a i (same j b f j_now) (omega arith) e (sym from) (sym group))
+    | inr m ↦ before i j a b (omega arith) (omega arith) e f from group
+  ]
+]
+  where
+    same : (index : ℕ) (one : Link) → slice_get links index ≡ Some one → index ≡ count → link ≡ one
+    same index one at now = let both : Some link ≡ Some one = sym here ∙ ap (slice_get links) (sym now) ∙ at in cc
+
+    same_group : (group : Group) → is_group group group ≡ true
+    same_group Back = refl
+    same_group Side = refl
+
+    differ : (one other : Link) (index : ℕ) → link ≡ one → index < count → slice_get links index ≡ Some other → one.from ≡ other.from → one.group ≡ other.group → ⊥
+    differ one other index is h at source groups =
+        false≢true (sym (none_passes (is_beside link) (take count links) index other none (slice_get-take links count index h ∙ at))
+        ∙ rw (eq-eqb link.from other.from (ap (λ (l : Link). l.from) is ∙ source)) (subst (λ g. is_group link.group g ≡ true) (ap (λ (l : Link). l.group) is ∙ groups) (same_group link.group)))
+
+pub single_all : (links : List Link) (count : ℕ) → SingleBelow links count → length links ≤ count → AreSingle links
+single_all links count below end i j a b e f = below i j a b (omega (arith, within_links links i a e)) (omega (arith, within_links links j b f)) e f
 
 -- When Dedup has nothing more to do.
 pub dedups_done : (g : Nodes) → ((key : ℕ) (node : Node) → node_at g key ≡ Some node → IsSingle (Some node)) → IsDone Dedups g

@@ -1,3 +1,4 @@
+pub mod NonePasses
 pub mod ClampSteps
 pub mod DedupSteps
 pub mod ClampEnd

@@ -22,7 +22,7 @@ mod weights;
 
 /// Drops each link that weighs 15 or more.
 ///
-/// It looks at each link once.
+/// It looks at each link once, and once more into a node where one goes.
 #[derive(Drop)]
 pub struct Clamp;
 
@@ -57,7 +57,8 @@ impl Pass for Clamp {
 /// Of the links with the same ends and group it drops all but one that weighs least, and of
 /// equal ones all but the first.
 ///
-/// It looks at each link twice, and takes four bytes for each key up to the greatest.
+/// It looks at each pair of links into a node where these are few. Into the others it looks at each
+/// link twice, and takes four bytes for each key up to the greatest if there is one.
 #[derive(Drop)]
 pub struct Dedup;
 
@@ -72,8 +73,11 @@ impl Pass for Dedup {
         ensures done { OnOk result (IsDone Dedups graph.new.nodes) }
         ensures turn { OnOk result (Exhausts Dedups graph.old.nodes graph.new.nodes) }
     {
-        let mut took = false;
         let keys = graph.keys()?;
+        if doubled::have_few_single_links(graph, &keys) {
+            return Ok(false);
+        }
+        let mut took = false;
         let mut weights = Weights::new(*keys.allocator(), &keys)?;
         for key in &keys {
             took |= doubled::drop_doubled_links(graph, *key, &mut weights);

@@ -1,3 +1,4 @@
 pub mod WaitLists
 pub mod TendSteps
 pub mod OneEnd
+pub mod TurnSteps

@@ -26,7 +26,7 @@ use Rattle.pass_frame.specs.Frame.{IsDone}
 use Rattle.pass_frame.proofs.Sweeps.{index_of_key}
 use Rattle.constant_fold.specs.declared.waits.Wait.{Wait}
 use Rattle.constant_fold.specs.Foldable.{is_constant_kind, is_constant, folding_part, part_of, part_at, is_at_rest, rest_value_at, ReadsConstants, IsFoldable, IsStuck, NoPart, Moves}
-use Rattle.constant_fold.specs.Tended.{waiting_for, IsAdded, IsEmptied, HasPassed, EachConstant, IsOpen, IsTended, ToDo, Awaits, NoFold, OthersTended, AllTended, IsFresh}
+use Rattle.constant_fold.specs.Tended.{waiting_for, IsAdded, IsEmptied, HasPassed, EachConstant, IsOpen, IsTended, ToDo, Awaits, NoFold, OthersTended, AllTended, AreListed, IsFresh}
 use Rattle.constant_fold.proofs.WaitLists.{among_front, among_back, among_either, each_join, each_front, each_back, each_so}
 
 -- what the tests tell
@@ -314,21 +314,42 @@ tended_folded g new key value work woken old lists t f e w emptied = record {
         no_link : (index : ℕ) (link : Link) → slice_get (links_of (Some (folded value f.node))) index ≡ Some link → ⊥
         no_link index link e = cc
 
+-- the keys of all nodes
+pub listed_of : (g : Nodes) (keys : List ℕ) → keys ≡ keys_of g → AreListed g keys
+listed_of g keys e k lives = by_entry (node_at g k) refl lives
+  where
+    by_entry : (entry : Option Node) → node_at g k ≡ entry → IsSome entry → (i : ℕ) × (i < length keys) × (get_or keys i 0 ≡ k)
+    by_entry None there h = absurd (false≢true h)
+    by_entry (Some node) there h =
+        let i = index_of_key g k node there in (i.0, omega (arith, i.1, ap (λ (ks : List ℕ). length ks) e), ap (λ (ks : List ℕ). get_or ks i.0 0) e ∙ i.2)
+
 -- At the start all nodes are to be looked at.
-pub tended_fresh : (g : Nodes) (keys : List ℕ) (work : List Wait) (lists : List (Vec Wait Global)) → keys ≡ keys_of g → IsFresh keys work lists → AllTended g work lists
-tended_fresh g keys work lists e fresh = record {
+pub tended_fresh : (g : Nodes) (keys : List ℕ) (work : List Wait) (lists : List (Vec Wait Global)) → AreListed g keys → IsFresh keys work lists → AllTended g work lists
+tended_fresh g keys work lists listed fresh = record {
   each = λ k node there.
-      let i = index_of_key g k node there in
-      let w = fresh.all i.0 (omega (arith, i.1, ap (λ (ks : List ℕ). length ks) e)) in
-      ToDo w.0 w.1 (w.2 ∙ ap (λ (ks : List ℕ). get_or ks i.0 0) e ∙ i.2);
+      let i = listed k (rw there refl) in
+      let w = fresh.all i.0 i.1 in
+      ToDo w.0 w.1 (w.2 ∙ i.2);
   passed = each_so (λ (wait : Wait). wait.index ≡ 0) (HasPassed g) (λ wait first index link less at. absurd (omega (arith, first, less))) work fresh.first;
   waits_passed = λ s. subst (Each (HasPassed g)) (sym (fresh.empty s)) tt;
-  room = λ k lives. by_entry k (node_at g k) refl lives;
+  room = λ k lives. let i = listed k lives in subst (λ n. n < length lists) i.2 (fresh.room i.0 i.1);
+}
+
+-- Each step folds a node that can be folded.
+pub foldable_of : (g new : Nodes) (step : Folds g new) → IsFoldable g step.key (out step.component step.node.state)
+foldable_of g new step = record {
+  node = step.node;
+  component = step.component;
+  there = step.there;
+  part = part_from step.node step.component step.idle step.can step.role;
+  sources = λ index link at. let source = step.sources index link at in source_tests (node_at g link.from) source.0 source.1 source.2;
+  rests = elim step.rests [
+    | inl h ↦ ap (λ b. b || locked step.component (readings_of (fixed g) step.node)) (eq-eqb step.node.state (goal step.component (readings_of (fixed g) step.node)) h)
+    | inr h ↦ or_true (step.node.state == goal step.component (readings_of (fixed g) step.node)) (locked step.component (readings_of (fixed g) step.node)) h
+  ];
+  gives = refl;
 }
   where
-    by_entry : (k : ℕ) (entry : Option Node) → node_at g k ≡ entry → IsSome entry → k < length lists
-    by_entry k None there h = absurd (false≢true h)
-    by_entry k (Some node) there h =
-        let i = index_of_key g k node there in
-        let inside : i.0 < length keys = omega (arith, i.1, ap (λ (ks : List ℕ). length ks) e) in
-        subst (λ n. n < length lists) (ap (λ (ks : List ℕ). get_or ks i.0 0) e ∙ i.2) (fresh.room i.0 inside)
+    or_true : (a b : Bool) → b ≡ true → (a || b) ≡ true
+    or_true true b h = refl
+    or_true false b h = h

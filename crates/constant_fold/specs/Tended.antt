@@ -63,6 +63,10 @@ pub record AllTended (g : Nodes) (work : List Wait) (lists : List (Vec Wait Glob
   pub waits_passed : (source : ℕ) → Each (HasPassed g) (waiting_for lists source)
   pub room : (k : ℕ) → Lives g k → k < length lists
 
+-- each node's key is among these
+abbrev pub AreListed : Nodes → List ℕ → Type 0
+AreListed g keys = (k : ℕ) → Lives g k → (i : ℕ) × (i < length keys) × (get_or keys i 0 ≡ k)
+
 -- All these nodes are to be looked at from their first links on, and nothing waits.
 pub record IsFresh (keys : List ℕ) (work : List Wait) (lists : List (Vec Wait Global)) : Type 0 where
   pub all : (index : ℕ) → index < length keys → (wait : Wait) × Among work wait × (wait.node ≡ get_or keys index 0)

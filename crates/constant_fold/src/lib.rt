@@ -4,12 +4,14 @@
 ghost use Rattle.std.specs.Prelude.{◌≡◌, OnOk};
 ghost use Rattle.graph.specs.Sound.{IsSound};
 ghost use Rattle.graph.specs.Steps.{Folds};
-ghost use Rattle.pass_frame.specs.Frame.{Ran, IsDone};
+ghost use Rattle.pass_frame.specs.Frame.{Reaches, Ran, IsDone};
 ghost use Rattle.pass_frame.specs.Rounds.{Exhausts};
+ghost use Rattle.constant_fold.specs.Tended.{AreListed};
 
-use graph::Graph;
+use graph::{Graph, NodeKey};
 use pass_frame::Pass;
 use rp_text::NoMemory;
+use std::alloc::Global;
 use waits::Waits;
 
 pub mod laws;
@@ -17,14 +19,16 @@ mod looks;
 mod rests;
 #[cfg(test)]
 mod tests;
+mod turns;
 mod waits;
 
 /// Makes a Constant of each torch, repeater and comparator that reads Constants alone, has no
 /// pending tick, and is at its goal or locked.
 ///
-/// A node that reads another one waits until that is folded. So each link is looked at once, and
-/// where all sources of its target are Constants once more. It takes a list for each key up to
-/// the greatest.
+/// It goes over the nodes once. Where nothing is folded that is all, and where nothing can be folded
+/// after that it goes over them once more. Else a node that reads another one waits until that is
+/// folded: so each link is looked at once more, and where all sources of its target are Constants
+/// twice, and a list is taken for each key up to the greatest.
 #[derive(Drop)]
 pub struct Fold;
 
@@ -40,14 +44,11 @@ impl Pass for Fold {
         ensures turn { OnOk result (Exhausts Folds graph.old.nodes graph.new.nodes) }
     {
         let keys = graph.keys()?;
-        let mut waits = Waits::new(*keys.allocator(), &keys)?;
-        let mut took = false;
-        while let Some(ready) = looks::next_ready(graph, &mut waits)? {
-            graph.fold_to(ready.key, ready.value);
-            took = true;
-            waits.wake(ready.key)?;
+        if !turns::fold_in_turn(graph, &keys) {
+            return Ok(false);
         }
-        Ok(took)
+        fold_others(*keys.allocator(), graph, &keys)?;
+        Ok(true)
     }
 
     ghost use Rattle.constant_fold.specs.FoldLaws.{fold_keeps_sound, fold_refines, fold_falls};
@@ -57,4 +58,33 @@ impl Pass for Fold {
     ghost refines = { fold_refines };
 
     ghost falls = { fold_falls };
+}
+
+// Folds what can be folded yet, where these are the keys of all nodes.
+fn fold_others(alloc: Global, graph: &mut Graph, keys: &[NodeKey]) -> Result<(), NoMemory>
+    requires sound { IsSound graph.old.nodes }
+    requires listed { AreListed graph.old.nodes keys.now }
+    ensures reaches { Reaches Folds graph.old.nodes graph.new.nodes }
+    ensures done { OnOk result (IsDone Folds graph.new.nodes) }
+{
+    if turns::is_folded(graph, keys) {
+        Ok(())
+    } else {
+        fold_all(alloc, graph, keys)
+    }
+}
+
+// The same, by what waits for what.
+fn fold_all(alloc: Global, graph: &mut Graph, keys: &[NodeKey]) -> Result<(), NoMemory>
+    requires sound { IsSound graph.old.nodes }
+    requires listed { AreListed graph.old.nodes keys.now }
+    ensures reaches { Reaches Folds graph.old.nodes graph.new.nodes }
+    ensures done { OnOk result (IsDone Folds graph.new.nodes) }
+{
+    let mut waits = Waits::new(alloc, keys)?;
+    while let Some(ready) = looks::next_ready(graph, &mut waits)? {
+        graph.fold_to(ready.key, ready.value);
+        waits.wake(ready.key)?;
+    }
+    Ok(())
 }

@@ -4,10 +4,10 @@ ghost use Rattle.std.specs.Prelude.{◌≡◌, ◌≤◌, Some};
 ghost use Rattle.circuit.specs.Component.{top};
 ghost use Rattle.graph.specs.Graph.{node_at};
 ghost use Rattle.graph.specs.Readings.{share, reading, back_of, readings_of};
-ghost use Rattle.graph.specs.Sound.{IsSound};
+ghost use Rattle.graph.specs.Sound.{IsSound, IsSoundNode};
 ghost use Rattle.graph.specs.Steps.{fixed, fixed_out};
 ghost use Rattle.graph.specs.Stored.{plain};
-ghost use Rattle.constant_fold.specs.Foldable.{is_constant_kind, is_constant, folding_part, part_of, part_at, rest_value, rest_value_at};
+ghost use Rattle.constant_fold.specs.Foldable.{is_constant_kind, is_constant, folding_part, part_of, part_at, rest_value, rest_value_at, are_fixed, fold_value, fold_value_at};
 
 use circuit::{Component, Readings, goal, locked, out};
 use graph::{Graph, Group, Kind, Link, Node, NodeKey};
@@ -37,8 +37,44 @@ fn folding_part(kind: Kind) -> Option<Component>
         Kind::Torch => Some(Component::Torch),
         Kind::Repeater { delay } => Some(Component::Repeater { delay }),
         Kind::Comparator { subtract, .. } => Some(Component::Comparator { subtract }),
-        _ => None,
+        Kind::Lever
+        | Kind::Button { .. }
+        | Kind::Plate
+        | Kind::Weighted
+        | Kind::Lamp
+        | Kind::Trapdoor
+        | Kind::Note
+        | Kind::Wire
+        | Kind::Constant => None,
     }
+}
+
+// What the node gives for good, if it can be folded now.
+pub fn fold_value_at(graph: &Graph, key: NodeKey) -> Option<u8>
+    requires { IsSound graph.now.nodes }
+    ensures { result ≡ fold_value_at graph.now.nodes (node_at graph.now.nodes key) }
+{
+    let node = graph.node(key)?;
+    fold_value(graph, node)
+}
+
+fn fold_value(graph: &Graph, node: &Node) -> Option<u8>
+    requires { IsSoundNode graph.now.nodes (plain node.now) }
+    ensures { result ≡ fold_value graph.now.nodes (plain node.now) }
+{
+    let component = part_of(node)?;
+    if are_fixed(graph, &node.links.items) {
+        rest_value(graph, node, component)
+    } else {
+        None
+    }
+}
+
+// Whether all these links come from Constants.
+fn are_fixed(graph: &Graph, links: &[Link]) -> bool
+    ensures { result ≡ are_fixed graph.now.nodes links.now }
+{
+    links.iter().all(|link| is_constant_at(graph, link.from))
 }
 
 pub fn is_constant_at(graph: &Graph, key: NodeKey) -> bool
@@ -55,7 +91,17 @@ fn is_constant(kind: Kind) -> bool
 {
     match kind {
         Kind::Constant => true,
-        _ => false,
+        Kind::Lever
+        | Kind::Button { .. }
+        | Kind::Plate
+        | Kind::Weighted
+        | Kind::Torch
+        | Kind::Repeater { .. }
+        | Kind::Comparator { .. }
+        | Kind::Lamp
+        | Kind::Trapdoor
+        | Kind::Note
+        | Kind::Wire => false,
     }
 }
 
@@ -103,7 +149,18 @@ fn back_of(kind: Kind, power: u8) -> u8
             ..
         } => direct,
         Kind::Comparator { far: Some(far), .. } if power < 15 => far,
-        _ => power,
+        Kind::Lever
+        | Kind::Button { .. }
+        | Kind::Plate
+        | Kind::Weighted
+        | Kind::Torch
+        | Kind::Repeater { .. }
+        | Kind::Comparator { .. }
+        | Kind::Lamp
+        | Kind::Trapdoor
+        | Kind::Note
+        | Kind::Wire
+        | Kind::Constant => power,
     }
 }
 
@@ -143,6 +200,16 @@ fn fixed_out(kind: Kind, state: u8) -> u8
 {
     match kind {
         Kind::Constant => state,
-        _ => 0,
+        Kind::Lever
+        | Kind::Button { .. }
+        | Kind::Plate
+        | Kind::Weighted
+        | Kind::Torch
+        | Kind::Repeater { .. }
+        | Kind::Comparator { .. }
+        | Kind::Lamp
+        | Kind::Trapdoor
+        | Kind::Note
+        | Kind::Wire => 0,
     }
 }

@@ -1,7 +1,8 @@
 -- The step that drops a link, and when Unreach has nothing more to do.
-use Rattle.std.proofs.Common.{◌≡◌, ℕ, ◌<◌, ◌≤◌, List, Option, Some, None, get_or, length, refl, sym, ap, ◌∙◌, subst, arith}
+use Rattle.std.proofs.Common.{◌≡◌, ℕ, zero, suc, ◌<◌, ◌≤◌, Bool, true, false, ◌||◌, List, [], ◌∷◌, Option, Some, None, get_or, length, refl, sym, ap, ◌∙◌, subst, arith, inl, inr}
 use Rattle.std.specs.Prelude.{remove, slice_get, IsSome}
-use Rattle.std.proofs.lemmas.Bool.{false≢true}
+use Rattle.std.specs.List.{list_any}
+use Rattle.std.proofs.lemmas.Bool.{cases_lt, false≢true, le-leb}
 use Rattle.graph.specs.declared.Link.{Link}
 use Rattle.graph.specs.Items.{keys_of}
 use Rattle.graph.specs.Graph.{Node, Nodes, node_at, Lives, HasLink}
@@ -14,7 +15,7 @@ use Rattle.graph.proofs.LinkDrops.{left_was_there}
 use Rattle.graph.proofs.Bounds.{bound_at-dropped}
 use Rattle.pass_frame.specs.Frame.{IsDone}
 use Rattle.pass_frame.proofs.Sweeps.{index_of_key}
-use Rattle.unreach.specs.Reached.{HasBound, HasBoundsOf, IsReached, SameBounds}
+use Rattle.unreach.specs.Reached.{is_spent, HasBound, HasBoundsOf, IsReached, SameBounds}
 
 pub unreach_step : (old new : Nodes) (key index : ℕ) (link : Link) (bounds : List ℕ) → HasLink old key index link → HasBound old bounds link.from → get_or bounds link.from 0 ≤ link.weight →
     new ≡ drop_link old key index → Unreaches old new
@@ -69,3 +70,20 @@ unreaches_done g bounds sound has h new step =
     let heavy : bound_at g (node_at g step.link.from) ≤ step.link.weight = step.heavy in
     let bound = (has step.link.from lives).bound in
     absurd (omega (arith, light, heavy, bound))
+
+-- what fails for all of a list fails for each of it
+or_parts : (a b : Bool) → (a || b) ≡ false → (a ≡ false) × (b ≡ false)
+or_parts true b e = absurd (cc)
+or_parts false b e = (refl, e)
+
+none_passes : (test : Link → Bool) (links : List Link) (index : ℕ) (link : Link) → list_any test links ≡ false → slice_get links index ≡ Some link → test link ≡ false
+none_passes test [] index link none at = absurd (cc)
+none_passes test (l ∷ links) zero link none at = let same : l ≡ link = cc in subst (λ one. test one ≡ false) same (or_parts (test l) (list_any test links) none).0
+none_passes test (l ∷ links) (suc index) link none at = none_passes test links index link (or_parts (test l) (list_any test links) none).1 at
+
+-- where no link is spent
+pub reached_by : (g : Nodes) (bounds : List ℕ) (key : ℕ) (node : Node) → Some node ≡ node_at g key → list_any (is_spent bounds) node.links ≡ false → IsReached bounds (node_at g key)
+reached_by g bounds key node there none = subst (IsReached bounds) there (λ index link at. elim (cases_lt link.weight (get_or bounds link.from 0)) [
+  | inl less ↦ less
+  | inr spent ↦ absurd (false≢true (sym (none_passes (is_spent bounds) node.links index link none at) ∙ le-leb (get_or bounds link.from 0) link.weight spent))
+])

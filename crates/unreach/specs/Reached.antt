@@ -1,5 +1,5 @@
 -- Bounds of nodes in a list by their numbers, and nodes that Unreach has nothing to do at.
-use Rattle.std.specs.Prelude.{◌≡◌, ℕ, ◌<◌, List, Option, get_or, length}
+use Rattle.std.specs.Prelude.{◌≡◌, ℕ, ◌<◌, Bool, nat_le, List, Option, get_or, length}
 use Rattle.graph.specs.declared.Link.{Link}
 use Rattle.graph.specs.Graph.{Node, Nodes, node_at}
 use Rattle.graph.specs.Steps.{bound_at}
@@ -9,6 +9,10 @@ use Rattle.graph.specs.LinkAt.{EachLink}
 pub record HasBound (g : Nodes) (bounds : List ℕ) (key : ℕ) : Type 0 where
   pub inside : key < length bounds
   pub bound : get_or bounds key 0 ≡ bound_at g (node_at g key)
+
+-- the link weighs as much as the bound of its source
+abbrev pub is_spent : List ℕ → Link → Bool
+is_spent bounds link = nat_le (get_or bounds link.from 0) link.weight
 
 -- the link weighs less than the bound of its source
 abbrev pub IsReaching : List ℕ → Link → Type 0

@@ -33,12 +33,14 @@ impl Bounds {
         Ok(Bounds { list })
     }
 
-    // The bound of the node.
+    // The bound of the node, 0 where there is none.
     pub fn of(&self, key: NodeKey) -> u8
-        requires { key < length self.now.list.items }
         ensures { result ≡ slice_index_or self.now.list.items key 0 }
     {
-        self.list[key.number() as usize]
+        match self.list.get(key.number() as usize) {
+            Some(bound) => *bound,
+            None => 0,
+        }
     }
 }
 
@@ -67,7 +69,20 @@ fn bound_of(graph: &Graph, node: &Node) -> u8
             let side = fixed_side(graph, &node.links.items);
             node.state.max(MOST_POWER.saturating_sub(side))
         }
-        _ => MOST_POWER,
+        Kind::Lever
+        | Kind::Button { .. }
+        | Kind::Plate
+        | Kind::Weighted
+        | Kind::Torch
+        | Kind::Repeater { .. }
+        | Kind::Comparator {
+            subtract: false,
+            ..
+        }
+        | Kind::Lamp
+        | Kind::Trapdoor
+        | Kind::Note
+        | Kind::Wire => MOST_POWER,
     }
 }
 
@@ -106,6 +121,16 @@ fn fixed_out(kind: Kind, state: u8) -> u8
 {
     match kind {
         Kind::Constant => state,
-        _ => 0,
+        Kind::Lever
+        | Kind::Button { .. }
+        | Kind::Plate
+        | Kind::Weighted
+        | Kind::Torch
+        | Kind::Repeater { .. }
+        | Kind::Comparator { .. }
+        | Kind::Lamp
+        | Kind::Trapdoor
+        | Kind::Note
+        | Kind::Wire => 0,
     }
 }

@@ -3,7 +3,7 @@ use Rattle.std.proofs.Common.{◌≡◌, ◌+◌, ◌*◌, ◌<◌, get_or, refl
 use Rattle.graph.specs.Graph.{Lives}
 use Rattle.graph.specs.Sound.{IsSound}
 use Rattle.graph.specs.Steps.{Dedups}
-use Rattle.pass_frame.specs.Frame.{Stays}
+use Rattle.pass_frame.specs.Frame.{Stays, IsDone}
 use Rattle.pass_frame.proofs.FrameSteps.{ran_err, ran_exhausts}
 use Rattle.pass_frame.proofs.Sweeps.{took_then, took_ran, took_sound, done_none, done_next, lived_next, key_in_turn, sweep_all}
 use Rattle.clamp_dedup.specs.Single.{IsSingle}
@@ -14,6 +14,14 @@ use Rattle.clamp_dedup.proofs.DedupPass.run.Goals as goal
 pub returns-in_err-keys-clause-ran : goal.returns-in_err-keys-clause-ran
 returns-in_err-keys-clause-ran c = ran_err Dedups c.args.graph.now.nodes c.args.graph.now.nodes c.from_residual.result c.from_residual.ensures.0 Stays
 
+pub have_few_single_links-requires : goal.have_few_single_links-requires
+have_few_single_links-requires c = c.deref.ensures.value ∙ c.in_ok-keys.ensures
+
+pub returns-then-have_few_single_links : goal.returns-then-have_few_single_links
+returns-then-have_few_single_links c =
+    let done : IsDone Dedups c.args.graph.now.nodes = dedups_done c.args.graph.now.nodes (c.have_few_single_links.ensures c.if-have_few_single_links.true) in
+    record { ran = (done, refl); done = done; turn = record { reaches = Stays; rests = done } }
+
 pub returns-in_err-weights-clause-ran : goal.returns-in_err-weights-clause-ran
 returns-in_err-weights-clause-ran c = ran_err Dedups c.args.graph.now.nodes c.args.graph.now.nodes c.from_residual-in_err-weights.result c.from_residual-in_err-weights.ensures.0 Stays
 
@@ -23,7 +31,7 @@ loop-key-init c = record {
   single = done_none IsSingle c.args.graph.now.nodes c.deref-key-items.result.now;
   lived = λ k h. h;
   empty = c.in_ok-weights.ensures.empty;
-  room = slots_for_all c.args.graph.now.nodes c.deref.result.now c.in_ok-weights.weights.slots.items (c.deref.ensures.value ∙ c.in_ok-keys.ensures) c.in_ok-weights.ensures.room;
+  room = slots_for_all c.args.graph.now.nodes c.deref-2.result.now c.in_ok-weights.weights.slots.items (c.deref-2.ensures.value ∙ c.in_ok-keys.ensures) c.in_ok-weights.ensures.room;
 }
 
 pub drop_doubled_links-took-requires-clause-room : goal.drop_doubled_links-took-requires-clause-room

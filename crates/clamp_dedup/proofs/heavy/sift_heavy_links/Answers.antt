@@ -1,5 +1,6 @@
 -- Each drop is a step, and what stays before the index is light.
 use Rattle.std.proofs.Common.{sym, ap, ◌∙◌, subst}
+use Rattle.std.proofs.lemmas.Bool.{leb-true, leb-false}
 use Rattle.graph.specs.Graph.{Nodes, node_at}
 use Rattle.graph.specs.Edits.{set_links}
 use Rattle.graph.specs.Sieving.{Sieve}
@@ -9,7 +10,7 @@ use Rattle.graph.proofs.SieveSteps.{sieved_same, sieved_link, sieved_each, sieve
 use Rattle.pass_frame.specs.Took.{Took}
 use Rattle.pass_frame.proofs.Sweeps.{took_step}
 use Rattle.clamp_dedup.specs.Clamped.{IsLight, IsClamped}
-use Rattle.clamp_dedup.proofs.heavy.drop_heavy_links.Goals as goal
+use Rattle.clamp_dedup.proofs.heavy.sift_heavy_links.Goals as goal
 
 pub loop-link-init : goal.loop-link-init
 loop-link-init c =
@@ -21,11 +22,11 @@ loop-link-init c =
 pub discard-requires : goal.discard-requires
 discard-requires c = within_links c.loop-link.links.items c.loop-link.links.index c.in-Some-link.link (sym c.link.ensures ∙ c.in-Some-link.is)
 
-pub loop-link-smaller-then-link-ge-MOST_POWER : goal.loop-link-smaller-then-link-ge-MOST_POWER
-loop-link-smaller-then-link-ge-MOST_POWER c = fewer_dropped c.loop-link.links c.discard.new.self c.in-Some-link.link (sym c.link.ensures ∙ c.in-Some-link.is) c.discard.ensures
+pub loop-link-smaller-then-is_heavy : goal.loop-link-smaller-then-is_heavy
+loop-link-smaller-then-is_heavy c = fewer_dropped c.loop-link.links c.discard.new.self c.in-Some-link.link (sym c.link.ensures ∙ c.in-Some-link.is) c.discard.ensures
 
-pub loop-link-preserved-then-link-ge-MOST_POWER : goal.loop-link-preserved-then-link-ge-MOST_POWER
-loop-link-preserved-then-link-ge-MOST_POWER c =
+pub loop-link-preserved-then-is_heavy : goal.loop-link-preserved-then-is_heavy
+loop-link-preserved-then-is_heavy c =
     let taken = taken_of c.args.graph.now.nodes c.args.key c.in-Some.links (sym c.in-Some.is ∙ c.take_links.ensures.links) in record {
       took = took_step Clamps c.args.graph.now.nodes (set_links c.args.graph.now.nodes c.args.key c.loop-link.links.items) (set_links c.args.graph.now.nodes c.args.key c.discard.new.self.items) c.loop-link.took
           c.loop-link.invariant.took (record {
@@ -33,7 +34,7 @@ loop-link-preserved-then-link-ge-MOST_POWER c =
             index = c.loop-link.links.index;
             link = c.in-Some-link.link;
             linked = sieved_link c.args.graph.now.nodes c.args.key c.loop-link.links.items c.loop-link.links.index c.in-Some-link.link taken.0 (sym c.link.ensures ∙ c.in-Some-link.is);
-            heavy = c.if-link-ge-MOST_POWER.true;
+            heavy = leb-true 15 c.in-Some-link.link.weight (sym c.is_heavy.ensures ∙ c.if-is_heavy.true);
             after = sieved_discard c.args.graph.now.nodes c.args.key c.loop-link.links c.discard.new.self c.discard.ensures;
           });
       light = subst (λ (one : Sieve). LinksBelow IsLight one.items one.index) (sym c.discard.ensures) (below_dropped IsLight c.loop-link.links.items c.loop-link.links.index c.loop-link.invariant.light);
@@ -49,7 +50,8 @@ pub loop-link-preserved : goal.loop-link-preserved
 loop-link-preserved c = record {
   took = subst (λ (one : Sieve). Took Clamps c.args.graph.now.nodes c.loop-link.took (set_links c.args.graph.now.nodes c.args.key one.items)) (sym c.keep.ensures) c.loop-link.invariant.took;
   light = subst (λ (one : Sieve). LinksBelow IsLight one.items one.index) (sym c.keep.ensures)
-      (below_next IsLight c.loop-link.links.items c.loop-link.links.index c.in-Some-link.link c.loop-link.invariant.light (sym c.link.ensures ∙ c.in-Some-link.is) c.if-link-ge-MOST_POWER.false);
+      (below_next IsLight c.loop-link.links.items c.loop-link.links.index c.in-Some-link.link c.loop-link.invariant.light (sym c.link.ensures ∙ c.in-Some-link.is)
+      (leb-false 15 c.in-Some-link.link.weight (sym c.is_heavy.ensures ∙ c.if-is_heavy.false)));
 }
 
 pub put_links-requires : goal.put_links-requires

@@ -16,7 +16,7 @@ use Rattle.pass_frame.proofs.Sweeps.{took_step}
 use Rattle.clamp_dedup.specs.Single.{IsSingle}
 use Rattle.clamp_dedup.specs.Weights.{slot_of, weight_in}
 use Rattle.clamp_dedup.proofs.DedupSteps.{Rest, rest_begins, rest_keeps, rest_drops, rest_empty, rest_single, dedup_step}
-use Rattle.clamp_dedup.proofs.doubled.drop_doubled_links.Goals as goal
+use Rattle.clamp_dedup.proofs.doubled.sift_doubled_links.Goals as goal
 
 pub loop-link-init : goal.loop-link-init
 loop-link-init c =

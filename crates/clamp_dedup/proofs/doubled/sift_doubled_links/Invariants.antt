@@ -3,7 +3,7 @@ use Rattle.graph.specs.Edits.{set_links}
 use Rattle.graph.specs.Steps.{Dedups}
 use Rattle.pass_frame.specs.Took.{Took}
 use Rattle.clamp_dedup.proofs.DedupSteps.{Rest}
-use Rattle.clamp_dedup.proofs.doubled.drop_doubled_links.Given as goal
+use Rattle.clamp_dedup.proofs.doubled.sift_doubled_links.Given as goal
 
 abbrev pub invariant-loop-link : goal.invariant-loop-link
 invariant-loop-link l = record {

@@ -4,7 +4,7 @@ use Rattle.graph.specs.Steps.{Clamps}
 use Rattle.graph.proofs.LinkSteps.{LinksBelow}
 use Rattle.pass_frame.specs.Took.{Took}
 use Rattle.clamp_dedup.specs.Clamped.{IsLight}
-use Rattle.clamp_dedup.proofs.heavy.drop_heavy_links.Given as goal
+use Rattle.clamp_dedup.proofs.heavy.sift_heavy_links.Given as goal
 
 abbrev pub invariant-loop-link : goal.invariant-loop-link
 invariant-loop-link l = record {

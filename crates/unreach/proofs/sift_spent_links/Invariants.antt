@@ -6,7 +6,7 @@ use Rattle.graph.specs.Steps.{Unreaches}
 use Rattle.graph.proofs.LinkSteps.{LinksBelow}
 use Rattle.pass_frame.specs.Took.{Took}
 use Rattle.unreach.specs.Reached.{HasBound, IsReaching, SameBounds}
-use Rattle.unreach.proofs.drop_spent_links.Given as goal
+use Rattle.unreach.proofs.sift_spent_links.Given as goal
 
 abbrev pub invariant-loop-link : goal.invariant-loop-link
 invariant-loop-link l = record {

@@ -1,6 +1,7 @@
 -- Each drop is a step that changes no bound, and what stays before the index reaches.
-use Rattle.std.proofs.Common.{◌≡◌, ◌<◌, ◌≤◌, Some, List, get_or, refl, sym, ap, ◌∙◌, subst}
+use Rattle.std.proofs.Common.{◌≡◌, ◌≤◌, Some, List, get_or, refl, sym, ap, ◌∙◌, subst}
 use Rattle.std.specs.Prelude.{slice_get}
+use Rattle.std.proofs.lemmas.Bool.{leb-true, leb-false}
 use Rattle.graph.specs.declared.Link.{Link}
 use Rattle.graph.specs.Graph.{Nodes, node_at, HasLink}
 use Rattle.graph.specs.Edits.{set_links, drop_link}
@@ -12,7 +13,7 @@ use Rattle.pass_frame.specs.Took.{Took}
 use Rattle.pass_frame.proofs.Sweeps.{took_step}
 use Rattle.unreach.specs.Reached.{HasBound, IsReaching, IsReached, SameBounds}
 use Rattle.unreach.proofs.UnreachSteps.{HasBounds, unreach_step, same_bounds_after, same_bounds_then, bounded_after}
-use Rattle.unreach.proofs.drop_spent_links.Goals as goal
+use Rattle.unreach.proofs.sift_spent_links.Goals as goal
 
 pub loop-link-init : goal.loop-link-init
 loop-link-init c =
@@ -25,17 +26,14 @@ loop-link-init c =
           (c.requires i link (ap (λ (ls : List Link). slice_get ls i) (sym taken.1) ∙ e));
     }
 
-pub of-requires : goal.of-requires
-of-requires c = (c.loop-link.invariant.bounded c.loop-link.links.index c.in-Some-link.link (sym c.link.ensures ∙ c.in-Some-link.is)).inside
-
 pub discard-requires : goal.discard-requires
 discard-requires c = within_links c.loop-link.links.items c.loop-link.links.index c.in-Some-link.link (sym c.link.ensures ∙ c.in-Some-link.is)
 
-pub loop-link-smaller-then-link-of : goal.loop-link-smaller-then-link-of
-loop-link-smaller-then-link-of c = fewer_dropped c.loop-link.links c.discard.new.self c.in-Some-link.link (sym c.link.ensures ∙ c.in-Some-link.is) c.discard.ensures
+pub loop-link-smaller-then-is_spent : goal.loop-link-smaller-then-is_spent
+loop-link-smaller-then-is_spent c = fewer_dropped c.loop-link.links c.discard.new.self c.in-Some-link.link (sym c.link.ensures ∙ c.in-Some-link.is) c.discard.ensures
 
-pub loop-link-preserved-then-link-of : goal.loop-link-preserved-then-link-of
-loop-link-preserved-then-link-of c =
+pub loop-link-preserved-then-is_spent : goal.loop-link-preserved-then-is_spent
+loop-link-preserved-then-is_spent c =
     let taken = taken_of c.args.graph.now.nodes c.args.key c.in-Some.links (sym c.in-Some.is ∙ c.take_links.ensures.links) in
     let here : slice_get c.loop-link.links.items c.loop-link.links.index ≡ Some c.in-Some-link.link = sym c.link.ensures ∙ c.in-Some-link.is in
     let linked : HasLink (set_links c.args.graph.now.nodes c.args.key c.loop-link.links.items) c.args.key c.loop-link.links.index c.in-Some-link.link =
@@ -44,7 +42,8 @@ loop-link-preserved-then-link-of c =
     sieved_discard c.args.graph.now.nodes c.args.key c.loop-link.links c.discard.new.self c.discard.ensures in
     let bound : HasBound (set_links c.args.graph.now.nodes c.args.key c.loop-link.links.items) c.args.bounds.now.list.items c.in-Some-link.link.from =
     c.loop-link.invariant.bounded c.loop-link.links.index c.in-Some-link.link here in
-    let heavy : get_or c.args.bounds.now.list.items c.in-Some-link.link.from 0 ≤ c.in-Some-link.link.weight = subst (λ n. n ≤ c.in-Some-link.link.weight) c.of.ensures c.if-link-of.true in
+    let heavy : get_or c.args.bounds.now.list.items c.in-Some-link.link.from 0 ≤ c.in-Some-link.link.weight =
+    leb-true (get_or c.args.bounds.now.list.items c.in-Some-link.link.from 0) c.in-Some-link.link.weight (sym c.is_spent.ensures ∙ c.if-is_spent.true) in
     let same : SameBounds (set_links c.args.graph.now.nodes c.args.key c.loop-link.links.items) (set_links c.args.graph.now.nodes c.args.key c.discard.new.self.items) =
     same_bounds_after (set_links c.args.graph.now.nodes c.args.key c.loop-link.links.items) (set_links c.args.graph.now.nodes c.args.key c.discard.new.self.items) c.args.key c.loop-link.links.index c.in-Some-link.link
     c.args.bounds.now.list.items linked bound heavy after in record {
@@ -72,7 +71,7 @@ loop-link-preserved c = record {
   took = subst (λ (one : Sieve). Took Unreaches c.args.graph.now.nodes c.loop-link.took (set_links c.args.graph.now.nodes c.args.key one.items)) (sym c.keep.ensures) c.loop-link.invariant.took;
   reaching = subst (λ (one : Sieve). LinksBelow (IsReaching c.args.bounds.now.list.items) one.items one.index) (sym c.keep.ensures)
       (below_next (IsReaching c.args.bounds.now.list.items) c.loop-link.links.items c.loop-link.links.index c.in-Some-link.link c.loop-link.invariant.reaching (sym c.link.ensures ∙ c.in-Some-link.is)
-      (subst (λ n. c.in-Some-link.link.weight < n) c.of.ensures c.if-link-of.false));
+      (leb-false (get_or c.args.bounds.now.list.items c.in-Some-link.link.from 0) c.in-Some-link.link.weight (sym c.is_spent.ensures ∙ c.if-is_spent.false)));
   same = subst (λ (one : Sieve). SameBounds c.args.graph.now.nodes (set_links c.args.graph.now.nodes c.args.key one.items)) (sym c.keep.ensures) c.loop-link.invariant.same;
   bounded = subst (λ (one : Sieve). HasBounds (set_links c.args.graph.now.nodes c.args.key one.items) c.args.bounds.now.list.items one.items) (sym c.keep.ensures) c.loop-link.invariant.bounded;
 }

@@ -1,0 +1,11 @@
+-- One node after another can't be folded.
+use Rattle.std.proofs.Common.{sym, ◌∙◌}
+use Rattle.constant_fold.proofs.TurnSteps.{none_of, none_next, none_folds, key_read}
+use Rattle.constant_fold.proofs.turns.is_folded.Goals as goal
+
+pub loop-key-preserved : goal.loop-key-preserved
+loop-key-preserved c = none_next c.args.graph.now.nodes c.args.keys.now c.loop-key.key-index c.key-item.result c.loop-key.invariant
+    (key_read c.args.keys.now c.loop-key.key-index c.key-item.result c.loop-key-test.true c.key-item.is) (sym c.fold_value_at.ensures ∙ none_of c.fold_value_at.result (sym c.is_some.ensures ∙ c.if-is_some.false))
+
+pub returns : goal.returns
+returns c _ = none_folds c.args.graph.now.nodes c.args.keys.now c.loop-key.key-index c.requires.listed c.loop-key.invariant c.loop-key-test.false
