@@ -54,7 +54,8 @@ impl<K: Copy> Slot<K> {
         self.nodes.append(&mut node).unwrap();
     }
 
-    /// Takes the first key out, and puts its node to the spare ones.
+    /// Takes the first key out, and puts its node before the spare ones, so that the next key goes
+    /// into it: few nodes are in use at a time, and they are the same ones again.
     pub fn take(&mut self, spare: &mut Nodes<K>) -> Option<K>
         requires few { length self.old + length spare.old < 2 ^ 63 }
         ensures keys { self.old ≡ option_to_list result ++ self.new }
@@ -63,6 +64,7 @@ impl<K: Copy> Slot<K> {
     {
         let key = (*self.nodes.front()?)?;
         let mut node = split_first(&mut self.nodes);
+        swap(spare, &mut node);
         spare.append(&mut node).unwrap();
         Some(key)
     }
