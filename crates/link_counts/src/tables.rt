@@ -1,10 +1,10 @@
-//! The counts of all nodes, with a table of their own only for groups that have links.
+//! The counts of all nodes, with a table of their own only for groups that have two links or more.
 
-ghost use Rattle.std.specs.Prelude.{◌≡◌, ◌+◌, ◌<◌, ◌^◌, ◌==◌, ◌&&◌, ℕ, [], ◌∷◌, ◌++◌, IfOk, OnErr, OnOk, length, slice_index};
+ghost use Rattle.std.specs.Prelude.{◌≡◌, ◌+◌, ◌-◌, ◌<◌, ◌≤◌, ◌^◌, ◌==◌, ◌&&◌, ◌⊎◌, ℕ, [], ◌∷◌, ◌++◌, IfOk, IfSome, OnErr, OnOk, length, slice_index};
 ghost use Rattle.graph.specs.declared.Group.{Group};
 ghost use Rattle.graph.specs.Links.{is_group};
 ghost use Rattle.link_counts.specs.Counted.{one_if, count_at, tally};
-ghost use Rattle.link_counts.specs.Tabled.{table_in, IsEmpty, IsShifted, IsAllotted};
+ghost use Rattle.link_counts.specs.Tabled.{number_in, with_number, IsShifted, IsLone, IsAllotted};
 
 use crate::counts::Counts;
 use graph::Group;
@@ -12,7 +12,11 @@ use rp_text::NoMemory;
 use std::alloc::Global;
 use std::marker::Model;
 
-/// The numbers of the tables of a node.
+// The number of the first table.
+const FIRST: u32 = 17;
+
+/// What is known of the links of a node, each group by a number: 0 says that there is none, 1 to 16
+/// that there is one, which brings one less, and what is more is the number of a table.
 #[derive(Clone, Copy)]
 pub struct Place {
     pub back: u32,
@@ -38,12 +42,27 @@ impl Model for Tables {
     ghost invariant = { λ t. IsTabled t.places.items t.tables.items };
 }
 
-fn table_in(place: Place, group: Group) -> usize
-    ensures { result ≡ table_in place group }
+fn number_in(place: Place, group: Group) -> u32
+    ensures { result ≡ number_in place group }
 {
     match group {
-        Group::Back => place.back as usize,
-        Group::Side => place.side as usize,
+        Group::Back => place.back,
+        Group::Side => place.side,
+    }
+}
+
+fn with_number(place: Place, group: Group, number: u32) -> Place
+    ensures { result ≡ with_number place group number }
+{
+    match group {
+        Group::Back => Place {
+            back: number,
+            ..place
+        },
+        Group::Side => Place {
+            side: number,
+            ..place
+        },
     }
 }
 
@@ -66,25 +85,48 @@ fn greatest_of(table: &[u32; 16]) -> u8
     ensures some { 0 < result → 0 < slice_index table.now result }
     ensures none { (strength : ℕ) → result < strength → strength < 16 → slice_index table.now strength ≡ 0 }
 {
-    let mut greatest = 0;
-    for strength in 1..16 {
+    for strength in (1..16).rev() {
         if table[strength as usize] > 0 {
-            greatest = strength;
+            return strength;
         }
     }
-    greatest
+    0
 }
 
-/// The number of a table with these counts, which is a new one unless they are all 0.
+/// The number of at most one link, where a number tells of the counts so far and so many more links
+/// bring the next strength.
+fn with_count(number: u32, strength: u32, count: u32) -> Option<u32>
+    requires { strength < 16 }
+    ensures { IfSome result (λ after. ((count ≡ 0) × (after ≡ number)) ⊎ ((count ≡ 1) × (number ≡ 0) × (after ≡ strength + 1))) }
+{
+    match count {
+        0 => Some(number),
+        1 if number == 0 => Some(strength + 1),
+        _ => None,
+    }
+}
+
+/// The number of these counts, if they are those of at most one link.
+fn lone_number(table: &[u32; 16]) -> Option<u32>
+    ensures { IfSome result (IsLone table.now 16) }
+{
+    let mut number = 0;
+    for strength in 0..16u8 {
+        number = with_count(number, u32::from(strength), table[strength as usize])?;
+    }
+    Some(number)
+}
+
+/// The number of these counts, which is that of a new table where there are two links or more.
 fn allot(tables: &mut Vec<[u32; 16]>, table: [u32; 16]) -> Result<u32, NoMemory>
     ensures allotted { IfOk result (λ number. IsAllotted tables.old.items table number tables.new.items) }
     ensures same { OnErr result (tables.new.items ≡ tables.old.items) }
     ensures wide { length table ≡ 16 }
 {
-    if table.iter().all(|count| *count == 0) {
-        return Ok(0);
+    if let Some(number) = lone_number(&table) {
+        return Ok(number);
     }
-    let number = u32::try_from(tables.len()).map_err(|_| NoMemory)?;
+    let number = u32::try_from(tables.len() + FIRST as usize).map_err(|_| NoMemory)?;
     tables.push(table)?;
     Ok(number)
 }
@@ -94,11 +136,9 @@ impl Tables {
     pub fn new(alloc: Global, room: usize) -> Result<Tables, NoMemory>
         ensures { IfOk result (λ tables. tables ≡ []) }
     {
-        let mut tables = Vec::new(alloc);
-        tables.push([0; 16])?;
         Ok(Tables {
             places: Vec::with_capacity(alloc, room)?,
-            tables,
+            tables: Vec::new(alloc),
         })
     }
 
@@ -123,8 +163,13 @@ impl Tables {
         ensures shifted { (other : ℕ) (second : Group) (at : ℕ) →
             tally self.new other second at + one_if ((key == other) && (is_group second group && (from == at))) ≡ tally self.old other second at + one_if ((key == other) && (is_group second group && (to == at))) }
     {
-        let number = table_in(self.places[key], group);
-        shift(&mut self.tables[number], from, to);
+        let place = self.places[key];
+        let number = number_in(place, group);
+        if number < FIRST {
+            self.places[key] = with_number(place, group, u32::from(to) + 1);
+        } else {
+            shift(&mut self.tables[(number - FIRST) as usize], from, to);
+        }
     }
 
     /// The greatest strength that a link of the group brings to a node, 0 where there is none.
@@ -134,7 +179,11 @@ impl Tables {
         ensures some { 0 < result → 0 < tally self.now key group result }
         ensures none { (strength : ℕ) → result < strength → strength < 16 → tally self.now key group strength ≡ 0 }
     {
-        let number = table_in(self.places[key], group);
-        greatest_of(&self.tables[number])
+        let number = number_in(self.places[key], group);
+        if number < FIRST {
+            number.saturating_sub(1) as u8
+        } else {
+            greatest_of(&self.tables[(number - FIRST) as usize])
+        }
     }
 }
