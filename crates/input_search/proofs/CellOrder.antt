@@ -30,7 +30,7 @@ less_is x y e = elim (cases_lt x y) [
   ]
 ]
 
-eqb-apart : (i y : ℕ) → i ≢ y → eqb i y ≡ false
+pub eqb-apart : (i y : ℕ) → i ≢ y → eqb i y ≡ false
 eqb-apart i y n = elim (cases_Bool (eqb i y)) [ inl e ↦ absurd (n (eqb-true i y e)) | inr e ↦ e ]
 
 -- what is in the list is above

@@ -20,3 +20,5 @@ mod WireNumbers
 mod WiringSteps
 mod Waves
 mod JoinedCells
+mod MetCells
+mod SourceCells

@@ -1,7 +1,8 @@
 -- A search for the links of a wire tap that looks at each wire once.
-use Rattle.std.proofs.Common.{◌≡◌, ℕ, zero, suc, ◌+◌, ◌<◌, ◌≤◌, Bool, true, false, not, List, [], ◌∷◌, ◌++◌, length, map, refl, sym, ◌∙◌, ap, subst, arith, inl, inr, ◌⊎◌, add-one}
+use Rattle.std.proofs.Common.{◌≡◌, ℕ, zero, suc, ◌+◌, ◌<◌, ◌≤◌, Bool, true, false, not, List, [], ◌∷◌, ◌++◌, length, map, refl, sym, ◌∙◌, ap, subst, arith, inl, inr, ◌⊎◌, add-one, Option, Some, None}
 use Rattle.std.specs.Prelude.{filter, All, ◌&&◌, ◌||◌, replicate}
 use Rattle.std.specs.List.{flat_map, range_with_len}
+use Rattle.std.specs.Option.{option_map_or}
 use Rattle.std.proofs.lemmas.Bool.{cases_Bool, false≢true}
 use Rattle.std.proofs.lemmas.List.{map-append, length-replicate}
 use Rattle.std.proofs.lemmas.List.Elements.{All-head, All-tail, All-contains, filter_map-append}
@@ -17,13 +18,14 @@ use Rattle.wire_shape.specs.Feeders.{feeders}
 use Rattle.input_search.specs.Links.{From, at_weight, among, direct_places, wires_in, sources_in, links_below, with_distance}
 use Rattle.input_search.specs.CellLists.{has_cell, kept_cells, cells_of, places_of, AreCells}
 use Rattle.input_search.specs.Distances.{Steps, Here, Onward}
-use Rattle.input_search.specs.Rows.{row_at, is_met, AreBelow, Gathers}
-use Rattle.input_search.specs.Wiring.{wire_place, wire_places, AreLinked, IsWiring}
+use Rattle.input_search.specs.Rows.{is_met, has_met, AreBelow, Gathers, GathersCells}
+use Rattle.input_search.specs.Wiring.{wire_cells, source_cells, wire_place, wire_places, fed_row, read_row, AreLinked, IsAt}
 use Rattle.input_search.proofs.CellOrder.{both, cell_among, cells_within}
 use Rattle.wiring.proofs.ReadLaws.{direct_places-source}
 use Rattle.input_search.proofs.Distances.{among-in, in-among, in-places, or-left, or-right, source-inside, steps-wire, wires_in-steps, steps-wires_in}
 use Rattle.wiring.proofs.Lists.{From_one, From_map, among-flat_map, among-flat_map_back, among-filter, among-map, among-map_back, among-Contains, Contains-among}
-use Rattle.input_search.proofs.WireNumbers.{has-among, among-has, all-among, numbers-apart, Numbered, numbered}
+use Rattle.cell_numbers.specs.Numbers.{number_in}
+use Rattle.input_search.proofs.WireNumbers.{has-among, among-has, all-among, numbers-apart, Numbered, numbered, fed-places, fed-below}
 
 -- ---- filters and tests
 
@@ -81,7 +83,7 @@ linked_or b n ps links s h =
 -- ---- the links of one more distance
 
 pub distance_found : (b : Plan) (n : ℕ) (ps : List Pos) (old new : List From) (met after : List Bool) (numbers found kept : List ℕ) → numbers ≡ cells_of b ps
-    → AreLinked b old met → Gathers numbers met after [] found → ((m : ℕ) → All (λ i. i < m) found → kept ≡ kept_cells m found)
+    → AreLinked b old met → GathersCells (source_cells b) numbers met after [] found → ((m : ℕ) → All (λ i. i < m) found → kept ≡ kept_cells m found)
     → (AreCells b kept) × (new ≡ old ++ map (at_weight n) (places_of b kept) → (new ≡ with_distance b n ps old) × AreLinked b new after)
 distance_found b n ps old new met after numbers found kept cells linked gathers in_order = (inside, λ added. (is added, next (is added)))
   where
@@ -97,8 +99,8 @@ distance_found b n ps old new met after numbers found kept cells linked gathers 
 
     found-below : (i : ℕ) → Among found i → i < volume b
     found-below i h =
-        let e : (has_cell numbers i && not (is_met met i)) ≡ true = sym (gathers.found i) ∙ has-among found i h in
-        let k : Among (cells_of b ps) i = subst (λ (xs : List ℕ). Among xs i) cells (among-has numbers i (and-left (has_cell numbers i) (not (is_met met i)) e)) in
+        let e : (has_cell numbers i && not (has_met (source_cells b) met i)) ≡ true = sym (gathers.found i) ∙ has-among found i h in
+        let k : Among (cells_of b ps) i = subst (λ (xs : List ℕ). Among xs i) cells (among-has numbers i (and-left (has_cell numbers i) (not (has_met (source_cells b) met i)) e)) in
         All-contains (λ j. j < volume b) (cells_of b ps) i (cells_within b ps) (among-Contains (cells_of b ps) i k)
 
     below : All (λ i. i < volume b) found
@@ -134,18 +136,22 @@ none_met (suc n) zero = refl
 none_met (suc n) (suc i) = none_met n i
 
 -- the rows of what wires read are the cells of what they read
-pub rows-read : (b : Plan) (cells : List ℕ) (fed read : List (List ℕ)) → IsWiring b cells fed read → (wires : List ℕ) → AreBelow (length cells) wires
-    → flat_map (row_at read) wires ≡ cells_of b (flat_map (direct_places b) (wire_places b cells wires))
-rows-read b cells fed read wiring [] h = refl
-rows-read b cells fed read wiring (x ∷ wires) h =
-    (λ j. wiring.reads.read x (All-head (λ i. i < length cells) x wires h) j ++ rows-read b cells fed read wiring wires (All-tail (λ i. i < length cells) x wires h) j)
-    ∙ sym (filter_map-append (found_cell b) (direct_places b (wire_place b cells x)) (flat_map (direct_places b) (wire_places b cells wires)))
+pub rows-read : (b : Plan) (wires : List ℕ) → flat_map (read_row b) wires ≡ cells_of b (flat_map (direct_places b) (wire_places b (wire_cells b) wires))
+unfolding read_row
+rows-read b [] = refl
+rows-read b (x ∷ wires) =
+    ap (λ (xs : List ℕ). cells_of b (direct_places b (wire_place b (wire_cells b) x)) ++ xs) (rows-read b wires)
+    ∙ sym (filter_map-append (found_cell b) (direct_places b (wire_place b (wire_cells b) x)) (flat_map (direct_places b) (wire_places b (wire_cells b) wires)))
+
+none_has_met : (listed : List ℕ) (n i : ℕ) → has_met listed (replicate n false) i ≡ false
+unfolding has_met
+none_has_met listed n i = elim (number_in listed i) as (λ found. option_map_or (is_met (replicate n false)) found false ≡ false) [ None ↦ refl | Some number ↦ none_met n number ]
 
 -- no link, and nothing met
-pub none_linked : (b : Plan) (links : List From) (met : List Bool) → links ≡ [] → met ≡ replicate (volume b) false → AreLinked b links met
+pub none_linked : (b : Plan) (links : List From) (met : List Bool) → links ≡ [] → met ≡ replicate (length (source_cells b)) false → AreLinked b links met
 none_linked b links met e f = record {
-  size = ap length f ∙ length-replicate (volume b) false;
-  linked = λ i h. ap (λ (bs : List Bool). is_met bs i) f ∙ none_met (volume b) i ∙ ap (λ (ls : List From). among (linked_places ls) (place_of b i)) (sym e);
+  size = ap length f ∙ length-replicate (length (source_cells b)) false;
+  linked = λ i h. ap (λ (bs : List Bool). has_met (source_cells b) bs i) f ∙ none_has_met (source_cells b) (length (source_cells b)) i ∙ ap (λ (ls : List From). among (linked_places ls) (place_of b i)) (sym e);
 }
 
 pub no_links : (b : Plan) (w : Pos) → links_below b w 0 ≡ []
@@ -179,36 +185,30 @@ record Behind (b : Plan) (w u : Pos) (n : ℕ) : Type 0 where
 behind : {b : Plan} {w u : Pos} {n : ℕ} → Steps b w u (suc n) → Behind b w u n
 behind {b = b} (Onward {v = v} {u = u} path c) = record { wire = v; is_in = steps-wires_in path; feeds = Contains-among (feeders b v) u c }
 
--- Where a search stands that has looked at less than n steps: at some wires in n steps, and at each of those that was never met before.
-pub record IsAt (b : Plan) (w : Pos) (cells : List ℕ) (n : ℕ) (wires : List ℕ) (met : List Bool) (links : List From) : Type 0 where
-  pub below : AreBelow (length cells) wires
-  pub reached : (i : ℕ) → Among wires i → Among (wires_in b w n) (wire_place b cells i)
-  pub size : length met ≡ length cells
-  pub all : (i : ℕ) → i < length cells → Among (wires_in b w n) (wire_place b cells i) → is_met met i ≡ true
-  pub read : (i : ℕ) → i < length cells → is_met met i ≡ true → has_cell wires i ≡ false → (s : Pos) → Among (direct_places b (wire_place b cells i)) s → among (linked_places links) s ≡ true
-  pub fed : (i j : ℕ) → i < length cells → j < length cells → is_met met i ≡ true → has_cell wires i ≡ false → Among (feeders b (wire_place b cells i)) (wire_place b cells j) → is_met met j ≡ true
+module _ (b : Plan) (w : Pos) (is_wire : wire_at b w ≡ true) where
+  abbrev cells : List ℕ
+  cells = wire_cells b
 
-module _ (b : Plan) (w : Pos) (is_wire : wire_at b w ≡ true) (cells : List ℕ) (fed read : List (List ℕ)) (wiring : IsWiring b cells fed read) where
   abbrev at : ℕ → Pos
-  at i = wire_place b cells i
+  at i = wire_place b (wire_cells b) i
 
   level-wire : (n : ℕ) (v : Pos) → Among (wires_in b w n) v → wire_at b v ≡ true
   level-wire n v h = steps-wire is_wire (wires_in-steps b w n v h)
 
-  number_of : (n : ℕ) (v : Pos) → Among (wires_in b w n) v → Numbered b cells wiring.wires v
-  number_of n v h = numbered b cells wiring.wires v (level-wire n v h)
+  number_of : (n : ℕ) (v : Pos) → Among (wires_in b w n) v → Numbered b cells refl v
+  number_of n v h = numbered b cells refl v (level-wire n v h)
 
-  row-feeds : (n j : ℕ) → n < length cells → Among (row_at fed n) j → Among (feeders b (at n)) (at j)
-  row-feeds n j h k = subst (λ (ps : List Pos). Among ps (at j)) (wiring.feeders.fed n h) (among-map_back at (row_at fed n) j k)
+  row-feeds : (n j : ℕ) → Among (fed_row b n) j → Among (feeders b (at n)) (at j)
+  row-feeds n j h = subst (λ (ps : List Pos). Among ps (at j)) (fed-places b n) (among-map_back at (fed_row b n) j h)
 
-  row-below : (n j : ℕ) → n < length cells → Among (row_at fed n) j → j < length cells
-  row-below n j h k = All-contains (λ i. i < length cells) (row_at fed n) j (wiring.feeders.below n h) (among-Contains (row_at fed n) j k)
+  row-below : (n j : ℕ) → Among (fed_row b n) j → j < length cells
+  row-below n j h = All-contains (λ i. i < length cells) (fed_row b n) j (fed-below b n) (among-Contains (fed_row b n) j h)
 
-  feeds-row : (n j : ℕ) → n < length cells → j < length cells → Among (feeders b (at n)) (at j) → Among (row_at fed n) j
-  feeds-row n j h l k =
-      let r : From_map at (row_at fed n) (at j) = among-map at (row_at fed n) (at j) (subst (λ (ps : List Pos). Among ps (at j)) (sym (wiring.feeders.fed n h)) k) in
-      let same : r.it ≡ j = numbers-apart b cells wiring.wires r.it j (row-below n r.it h r.is_in) l r.is in
-      subst (Among (row_at fed n)) same r.is_in
+  feeds-row : (n j : ℕ) → j < length cells → Among (feeders b (at n)) (at j) → Among (fed_row b n) j
+  feeds-row n j l k =
+      let r : From_map at (fed_row b n) (at j) = among-map at (fed_row b n) (at j) (subst (λ (ps : List Pos). Among ps (at j)) (sym (fed-places b n)) k) in
+      let same : r.it ≡ j = numbers-apart b cells refl r.it j (row-below n r.it r.is_in) l r.is in
+      subst (Among (fed_row b n)) same r.is_in
 
   -- ---- where a search begins
 
@@ -238,7 +238,7 @@ module _ (b : Plan) (w : Pos) (is_wire : wire_at b w ≡ true) (cells : List ℕ
       below = all-among (λ i. i < length cells) wires (λ i h. subst (λ (k : ℕ). k < length cells) (sym (found-first i h)) in_wires);
       reached = λ i h. subst (Among (wires_in b w 0)) (sym (ap at (found-first i h) ∙ place)) (steps-wires_in Here);
       size = gathers.size ∙ length-replicate (length cells) false;
-      all = λ i h k. start_met i ∙ has-among (first ∷ []) i (inl (numbers-apart b cells wiring.wires i first h in_wires (level_start b w (at i) k ∙ sym place)));
+      all = λ i h k. start_met i ∙ has-among (first ∷ []) i (inl (numbers-apart b cells refl i first h in_wires (level_start b w (at i) k ∙ sym place)));
       read = λ i h m k s r. no_other (◌≡◌ (among (linked_places []) s) true) i m k;
       fed = λ i j h l m k f. no_other (is_met met j ≡ true) i m k;
     }
@@ -257,7 +257,7 @@ module _ (b : Plan) (w : Pos) (is_wire : wire_at b w ≡ true) (cells : List ℕ
     source-old : (s : Pos) → Among (sources_in b w n) s → (Among sources s) ⊎ (among (linked_places links) s ≡ true)
     source-old s h =
         let r : From_one (direct_places b) (wires_in b w n) s = among-flat_map (direct_places b) (wires_in b w n) s h in
-        let v : Numbered b cells wiring.wires r.it = number_of n r.it r.is_in in
+        let v : Numbered b cells refl r.it = number_of n r.it r.is_in in
         let in_level : Among (wires_in b w n) (at v.number) = subst (Among (wires_in b w n)) (sym v.place) r.is_in in
         let reads : Among (direct_places b (at v.number)) s = subst (λ (p : Pos). Among (direct_places b p) s) (sym v.place) r.gives in
         elim (cases_Bool (has_cell wires v.number)) [
@@ -293,26 +293,26 @@ module _ (b : Plan) (w : Pos) (is_wire : wire_at b w ≡ true) (cells : List ℕ
 
     -- ---- one step on
 
-    module _ (next : List ℕ) (after : List Bool) (more : List From) (gathers : Gathers (flat_map (row_at fed) wires) met after [] next) (added : more ≡ with_distance b n sources links) where
+    module _ (next : List ℕ) (after : List Bool) (more : List From) (gathers : Gathers (flat_map (fed_row b) wires) met after [] next) (added : more ≡ with_distance b n sources links) where
       abbrev fed_by : List ℕ
-      fed_by = flat_map (row_at fed) wires
+      fed_by = flat_map (fed_row b) wires
 
       and-left : (s t : Bool) → (s && t) ≡ true → s ≡ true
       and-left true t h = refl
       and-left false t h = absurd (false≢true h)
 
-      next-fed : (i : ℕ) → Among next i → From_one (row_at fed) wires i
+      next-fed : (i : ℕ) → Among next i → From_one (fed_row b) wires i
       next-fed i h =
           let e : (has_cell fed_by i && not (is_met met i)) ≡ true = sym (gathers.found i) ∙ has-among next i h in
-          among-flat_map (row_at fed) wires i (among-has fed_by i (and-left (has_cell fed_by i) (not (is_met met i)) e))
+          among-flat_map (fed_row b) wires i (among-has fed_by i (and-left (has_cell fed_by i) (not (is_met met i)) e))
 
       next-below : (i : ℕ) → Among next i → i < length cells
-      next-below i h = let r : From_one (row_at fed) wires i = next-fed i h in row-below r.it i (wire-below r.it r.is_in) r.gives
+      next-below i h = let r : From_one (fed_row b) wires i = next-fed i h in row-below r.it i r.gives
 
       next-reached : (i : ℕ) → Among next i → Among (wires_in b w (suc n)) (at i)
       next-reached i h =
-          let r : From_one (row_at fed) wires i = next-fed i h in
-          level-next b w (at r.it) (at i) n (here.reached r.it r.is_in) (row-feeds r.it i (wire-below r.it r.is_in) r.gives)
+          let r : From_one (fed_row b) wires i = next-fed i h in
+          level-next b w (at r.it) (at i) n (here.reached r.it r.is_in) (row-feeds r.it i r.gives)
 
       -- what was met, and what one of the wires has in its row, is met
       still_met : (i : ℕ) → is_met met i ≡ true → is_met after i ≡ true
@@ -321,12 +321,12 @@ module _ (b : Plan) (w : Pos) (is_wire : wire_at b w ≡ true) (cells : List ℕ
       now_met : (i j : ℕ) → Among wires i → j < length cells → Among (feeders b (at i)) (at j) → is_met after j ≡ true
       now_met i j h l k =
           gathers.met j
-          ∙ or-right (is_met met j) (has_cell fed_by j) (has-among fed_by j (among-flat_map_back (row_at fed) wires i j h (feeds-row i j (wire-below i h) l k)))
+          ∙ or-right (is_met met j) (has_cell fed_by j) (has-among fed_by j (among-flat_map_back (fed_row b) wires i j h (feeds-row i j l k)))
 
       next-all : (i : ℕ) → i < length cells → Among (wires_in b w (suc n)) (at i) → is_met after i ≡ true
       next-all i h k =
           let r : Behind b w (at i) n = behind (wires_in-steps b w (suc n) (at i) k) in
-          let v : Numbered b cells wiring.wires r.wire = number_of n r.wire r.is_in in
+          let v : Numbered b cells refl r.wire = number_of n r.wire r.is_in in
           let in_level : Among (wires_in b w n) (at v.number) = subst (Among (wires_in b w n)) (sym v.place) r.is_in in
           let feeds : Among (feeders b (at v.number)) (at i) = subst (λ (p : Pos). Among (feeders b p) (at i)) (sym v.place) r.feeds in
           elim (cases_Bool (has_cell wires v.number)) [

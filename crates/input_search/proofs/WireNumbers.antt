@@ -1,6 +1,6 @@
 -- The wires of a build by their numbers.
 use Rattle.std.proofs.Common.{◌≡◌, ℕ, zero, suc, ◌+◌, ◌<◌, ◌≤◌, Bool, true, List, [], ◌∷◌, Option, Some, None, length, get_or, refl, sym, ◌∙◌, ap, subst, arith, inl, inr, eq-eqb, eqb-true}
-use Rattle.std.specs.Prelude.{All, AllPairs, Contains, take, option_map, ◌==◌}
+use Rattle.std.specs.Prelude.{All, AllPairs, Contains, take, map, option_map, ◌==◌}
 use Rattle.std.specs.List.{range_with_len}
 use Rattle.std.proofs.Math.Dec.{eqb}
 use Rattle.std.proofs.lemmas.Bool.{cases_Bool, cases_lt, false≢true}
@@ -17,7 +17,10 @@ use Rattle.wire_shape.specs.Shape.{wire_at}
 use Rattle.wire_shape.specs.WirePlaces.{wire_inside}
 use Rattle.cell_numbers.specs.Numbers.{number_in}
 use Rattle.input_search.specs.CellLists.{has_cell}
-use Rattle.input_search.specs.Wiring.{wire_cells, wire_place}
+use Rattle.input_search.specs.Wiring.{wire_cells, wire_place, wire_places, wire_number, fed_row}
+use Rattle.std.specs.Option.{option_map_or}
+use Rattle.wire_shape.specs.Feeders.{feeders}
+use Rattle.wire_shape.specs.FeederFacts.{feeder-wire}
 use Rattle.input_search.proofs.CellOrder.{range_has}
 use Rattle.input_search.proofs.Distances.{or-right}
 use Rattle.wiring.proofs.Lists.{among-filter, Contains-among, among-Contains}
@@ -74,22 +77,6 @@ number-missed (x ∷ xs) cell a e = elim (cases_Bool (cell == x)) [
   ]
 ]
 
--- the first cells of a list that rises are below the next one
-among-take : (xs : List ℕ) (index x : ℕ) → Among (take index xs) x → (j : ℕ) × (j < index) × (get_or xs j 0 ≡ x)
-among-take [] zero x a = absurd a
-among-take [] (suc index) x a = absurd a
-among-take (y ∷ xs) zero x a = absurd a
-among-take (y ∷ xs) (suc index) x a = elim a [
-  | inl e ↦ (zero, omega arith, sym e)
-  | inr b ↦ (let r = among-take xs index x b in (suc r.0, omega (arith, r.1), r.2))
-]
-
-pub first-below : (xs : List ℕ) (index : ℕ) → AllPairs (λ i j. i < j) xs → index < length xs → All (λ other. other < get_or xs index 0) (take index xs)
-first-below xs index rise inside = all-among (λ other. other < get_or xs index 0) (take index xs) (λ other a.
-    let r = among-take xs index other a in
-    let less : get_or xs r.0 0 < get_or xs index 0 = rise r.0 index 0 r.1 inside in
-    omega (arith, less, r.2))
-
 over_range : (k a n : ℕ) → k < a → Each (λ j. k < j) (range_with_len a n)
 over_range k a zero h = tt
 over_range k a (suc n) h = (h, over_range k (a + 1) n (omega arith))
@@ -110,15 +97,18 @@ module _ (b : Plan) (cells : List ℕ) (wires : cells ≡ wire_cells b) where
   is_wire i = wire_at b (place_of b i)
 
   pub cells-rise : AllPairs (λ i j. i < j) cells
+  unfolding wire_cells
   cells-rise =
       subst (λ (xs : List ℕ). AllPairs (λ i j. i < j) xs) (sym wires)
       (before-pairs (λ i j. i < j) (wire_cells b) (before-filter (λ i j. i < j) is_wire (range_with_len 0 (volume b)) (range_before 0 (volume b))))
 
   pub cells-few : length cells ≤ volume b
+  unfolding wire_cells
   cells-few =
       omega (arith, ap length wires, length-filter is_wire (range_with_len 0 (volume b)), count_by-le-length is_wire (range_with_len 0 (volume b)), length-range_with_len 0 (volume b))
 
   cell-in : (number : ℕ) → number < length cells → Among (range_with_len 0 (volume b)) (get_or cells number 0) × (is_wire (get_or cells number 0) ≡ true)
+  unfolding wire_cells
   cell-in number h =
       let i : Among cells (get_or cells number 0) = Contains-among cells (get_or cells number 0) (Contains-get_or cells number 0 h) in
       among-filter is_wire (range_with_len 0 (volume b)) (get_or cells number 0) (subst (λ (xs : List ℕ). Among xs (get_or cells number 0)) wires i)
@@ -130,6 +120,7 @@ module _ (b : Plan) (cells : List ℕ) (wires : cells ≡ wire_cells b) where
   number-wire number h = (cell-in number h).1
 
   pub wire-listed : (p : Pos) → wire_at b p ≡ true → has_cell cells (cell_of b p) ≡ true
+  unfolding wire_cells
   wire-listed p h =
       let at_p = inside b p (wire_inside b p h) in
       let i : Among (wire_cells b) (cell_of b p) =
@@ -162,3 +153,36 @@ module _ (b : Plan) (cells : List ℕ) (wires : cells ≡ wire_cells b) where
       let r : Contains cells (cell_of b p) = among-Contains cells (cell_of b p) (among-has cells (cell_of b p) (wire-listed p h)) in
       let there : get_or cells r.0 0 ≡ cell_of b p = get_or_default cells r.0 0 (cell_of b p) r.1 ∙ r.2 in
       record { number = r.0; below = r.1; place = number-place p r.0 h there }
+
+-- ---- the rows of feeders
+
+-- the number of a wire is its number
+pub wire_number-is : (b : Plan) (p : Pos) → wire_at b p ≡ true → (wire_number b p < length (wire_cells b)) × (wire_place b (wire_cells b) (wire_number b p) ≡ p)
+unfolding wire_number
+wire_number-is b p h = one (number_in (wire_cells b) (cell_of b p)) refl
+  where
+    one : (found : Option ℕ) → number_in (wire_cells b) (cell_of b p) ≡ found →
+        (option_map_or (λ (n : ℕ). n) found 0 < length (wire_cells b)) × (wire_place b (wire_cells b) (option_map_or (λ (n : ℕ). n) found 0) ≡ p)
+    one None e = absurd (number-missed (wire_cells b) (cell_of b p) (among-has (wire_cells b) (cell_of b p) (wire-listed b (wire_cells b) refl p h)) e)
+    one (Some n) e =
+        let there : (n < length (wire_cells b)) × (get_or (wire_cells b) n 0 ≡ cell_of b p) = number-there (wire_cells b) (cell_of b p) n e in
+        (there.0, number-place b (wire_cells b) refl p n h there.1)
+
+numbers-places : (b : Plan) (ps : List Pos) → ((p : Pos) → Among ps p → wire_at b p ≡ true) → wire_places b (wire_cells b) (map (wire_number b) ps) ≡ ps
+numbers-places b [] h = refl
+numbers-places b (p ∷ ps) h = λ i. (wire_number-is b p (h p (inl refl))).1 i ∷ numbers-places b ps (λ q k. h q (inr k)) i
+
+numbers-below : (b : Plan) (ps : List Pos) → ((p : Pos) → Among ps p → wire_at b p ≡ true) → All (λ i. i < length (wire_cells b)) (map (wire_number b) ps)
+numbers-below b [] h = All-nil (λ i. i < length (wire_cells b))
+numbers-below b (p ∷ ps) h = All-cons (λ i. i < length (wire_cells b)) (wire_number b p) (map (wire_number b) ps) (wire_number-is b p (h p (inl refl))).0 (numbers-below b ps (λ q k. h q (inr k)))
+
+feeder-is_wire : (b : Plan) (p q : Pos) → Among (feeders b p) q → wire_at b q ≡ true
+feeder-is_wire b p q h = feeder-wire b p q (among-Contains (feeders b p) q h)
+
+pub fed-places : (b : Plan) (n : ℕ) → wire_places b (wire_cells b) (fed_row b n) ≡ feeders b (wire_place b (wire_cells b) n)
+unfolding fed_row
+fed-places b n = numbers-places b (feeders b (wire_place b (wire_cells b) n)) (feeder-is_wire b (wire_place b (wire_cells b) n))
+
+pub fed-below : (b : Plan) (n : ℕ) → All (λ i. i < length (wire_cells b)) (fed_row b n)
+unfolding fed_row
+fed-below b n = numbers-below b (feeders b (wire_place b (wire_cells b) n)) (feeder-is_wire b (wire_place b (wire_cells b) n))

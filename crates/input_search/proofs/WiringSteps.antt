@@ -1,20 +1,16 @@
--- The wires that are listed, and their rows, one more.
-use Rattle.std.proofs.Common.{◌≡◌, ℕ, zero, suc, ◌+◌, ◌<◌, Bool, List, [], ◌∷◌, ◌++◌, length, take, Some, sym, ◌∙◌, ap, subst, arith, inl, inr, add-one}
-use Rattle.std.specs.Prelude.{filter, slice_get}
+-- The wires and sources of one cell more, and the rows of one wire more.
+use Rattle.std.proofs.Common.{◌≡◌, ℕ, zero, suc, ◌+◌, ◌<◌, ◌≤◌, Bool, List, [], ◌∷◌, ◌++◌, length, get_or, set, sym, ◌∙◌, ap, subst, arith, inl, inr, add-one, length-append, All}
+use Rattle.std.specs.Prelude.{filter, replicate}
 use Rattle.std.specs.List.{range_with_len}
 use Rattle.std.proofs.lemmas.Bool.{cases_eq}
-use Rattle.std.proofs.lemmas.List.{take_more}
+use Rattle.std.proofs.lemmas.List.{get_or-set_same, get_or-set_other}
 use Rattle.std.proofs.lemmas.List.Elements.{filter-append}
 use Rattle.std.proofs.Math.ListN.{get_or-append}
 use Rattle.std.proofs.Math.Seq.{get_or-append_seam}
-use Rattle.std.proofs.lemmas.Option.{slice_get_within, get_or_from_slice_get}
-use Rattle.circuit.specs.declared.Pos.{Pos}
 use Rattle.build.specs.Plan.{Plan}
-use Rattle.wire_shape.specs.Feeders.{feeders}
-use Rattle.input_search.specs.CellLists.{cells_of}
-use Rattle.input_search.specs.Links.{direct_places}
-use Rattle.input_search.specs.Rows.{row_at, AreBelow}
-use Rattle.input_search.specs.Wiring.{wire_place, wire_places, AreFeeders, AreReads}
+use Rattle.cell_numbers.proofs.Rising.{kept-below}
+use Rattle.input_search.specs.Rows.{row_at}
+use Rattle.input_search.specs.Wiring.{fed_row, read_row, AreRows}
 
 range_more : (a n : ℕ) → range_with_len a (suc n) ≡ range_with_len a n ++ (a + n) ∷ []
 range_more a zero = let e : a + 0 ≡ a = omega arith in ap (λ (x : ℕ). x ∷ []) (sym e)
@@ -30,35 +26,56 @@ wires_more test n now next e f =
     ∙ sym (filter-append test (range_with_len 0 n) (n ∷ []))
     ∙ ap (filter test) (sym (ap (range_with_len 0) (add-one n) ∙ range_more 0 n ∙ ap (λ (x : ℕ). range_with_len 0 n ++ x ∷ []) z))
 
--- one row more
-rows_more : (P : ℕ → List ℕ → Type 0) (rows next : List (List ℕ)) (row : List ℕ) (n : ℕ) → length rows ≡ n → ((k : ℕ) → k < n → P k (row_at rows k)) → P n row → next ≡ rows ++ row ∷ []
-    → (k : ℕ) → k < n + 1 → P k (row_at next k)
-rows_more P rows next row n whole before here added k h = elim (cases_eq k n) [
+pub listed-below : (test : ℕ → Bool) (n : ℕ) (cells : List ℕ) → cells ≡ filter test (range_with_len 0 n) → All (λ cell. cell < n) cells
+listed-below test n cells e = subst (All (λ cell. cell < n)) (sym e) (kept-below test n)
+
+-- what was found stays
+rows_kept : (b : Plan) (feeders reads : List (List ℕ)) (fed read : List ℕ) (number row : ℕ) → length reads ≡ length feeders → AreRows b feeders reads number row
+    → AreRows b (feeders ++ fed ∷ []) (reads ++ read ∷ []) number row
+rows_kept b feeders reads fed read number row same found =
+    let within : row < length reads = omega (arith, found.inside) in
+    record {
+      inside = omega (arith, found.inside, length-append feeders (fed ∷ []));
+      fed = get_or-append feeders (fed ∷ []) [] row found.inside ∙ found.fed;
+      read = get_or-append reads (read ∷ []) [] row within ∙ found.read;
+    }
+
+-- what is found
+pub rows_found : (b : Plan) (feeders reads : List (List ℕ)) (number row : ℕ) → length feeders ≡ row → length reads ≡ row
+    → AreRows b (feeders ++ fed_row b number ∷ []) (reads ++ read_row b number ∷ []) number row
+rows_found b feeders reads number row e f = record {
+  inside = omega (arith, e, length-append feeders (fed_row b number ∷ []));
+  fed = ap (row_at (feeders ++ fed_row b number ∷ [])) (sym e) ∙ get_or-append_seam feeders (fed_row b number) [] [];
+  read = ap (row_at (reads ++ read_row b number ∷ [])) (sym f) ∙ get_or-append_seam reads (read_row b number) [] [];
+}
+
+pub found_more : (b : Plan) (feeders reads : List (List ℕ)) (slots : List ℕ) (number count : ℕ) → length feeders ≡ count → length reads ≡ count → number < length slots
+    → ((k row : ℕ) → get_or slots k 0 ≡ row + 1 → AreRows b feeders reads k row)
+    → (k row : ℕ) → get_or (set slots number (count + 1)) k 0 ≡ row + 1 → AreRows b (feeders ++ fed_row b number ∷ []) (reads ++ read_row b number ∷ []) k row
+found_more b feeders reads slots number count e f inside found k row h = elim (cases_eq k number) [
   | inl same ↦
-      let last : row_at next k ≡ row = ap (λ (rs : List (List ℕ)). row_at rs k) added ∙ ap (row_at (rows ++ row ∷ [])) (same ∙ sym whole) ∙ get_or-append_seam rows row [] [] in
-      subst (P k) (sym last) (subst (λ (m : ℕ). P m row) (sym same) here)
-  | inr apart ↦
-      let less : k < n = omega arith in
-      let within : k < length rows = omega arith in
-      let front : row_at next k ≡ row_at rows k = ap (λ (rs : List (List ℕ)). row_at rs k) added ∙ get_or-append rows (row ∷ []) [] k within in
-      subst (P k) (sym front) (before k less)
+      let here : get_or (set slots number (count + 1)) number 0 ≡ row + 1 = ap (λ (n : ℕ). get_or (set slots number (count + 1)) n 0) (sym same) ∙ h in
+      let is : count ≡ row = omega (arith, here, get_or-set_same slots number (count + 1) 0 inside) in
+      subst (λ (n : ℕ). AreRows b (feeders ++ fed_row b number ∷ []) (reads ++ read_row b number ∷ []) n row) (sym same)
+      (rows_found b feeders reads number row (e ∙ is) (f ∙ is))
+  | inr apart ↦ rows_kept b feeders reads (fed_row b number) (read_row b number) k row (f ∙ sym e) (found k row (sym (get_or-set_other slots number k (count + 1) 0 apart) ∙ h))
 ]
 
-pub feeders_more : (b : Plan) (cells : List ℕ) (rows next : List (List ℕ)) (row : List ℕ) (n : ℕ) → length rows ≡ n → AreFeeders b cells rows n
-    → AreBelow (length cells) row → wire_places b cells row ≡ feeders b (wire_place b cells n) → next ≡ rows ++ row ∷ [] → AreFeeders b cells next (n + 1)
-feeders_more b cells rows next row n whole before below fed added = record {
-  below = rows_more (λ k r. AreBelow (length cells) r) rows next row n whole before.below below added;
-  fed = rows_more (λ k r. wire_places b cells r ≡ feeders b (wire_place b cells k)) rows next row n whole before.fed fed added;
-}
+pub found_next : (b : Plan) (feeders reads feeders2 reads2 : List (List ℕ)) (slots slots2 : List ℕ) (number count next : ℕ) → length feeders ≡ count → length reads ≡ count → number < length slots
+    → ((k row : ℕ) → get_or slots k 0 ≡ row + 1 → AreRows b feeders reads k row)
+    → feeders2 ≡ feeders ++ fed_row b number ∷ [] → reads2 ≡ reads ++ read_row b number ∷ [] → slots2 ≡ set slots number next → next ≡ count + 1
+    → (k row : ℕ) → get_or slots2 k 0 ≡ row + 1 → AreRows b feeders2 reads2 k row
+found_next b feeders reads feeders2 reads2 slots slots2 number count next e f inside found fed read put more k row h =
+    let is : get_or (set slots number (count + 1)) k 0 ≡ row + 1 = ap (λ (xs : List ℕ). get_or xs k 0) (sym (put ∙ ap (set slots number) more)) ∙ h in
+    subst (λ (fs : List (List ℕ)). AreRows b fs reads2 k row) (sym fed)
+    (subst (λ (rs : List (List ℕ)). AreRows b (feeders ++ fed_row b number ∷ []) rs k row) (sym read)
+    (found_more b feeders reads slots number count e f inside found k row is))
 
-pub reads_more : (b : Plan) (cells : List ℕ) (rows next : List (List ℕ)) (row : List ℕ) (n : ℕ) → length rows ≡ n → AreReads b cells rows n
-    → row ≡ cells_of b (direct_places b (wire_place b cells n)) → next ≡ rows ++ row ∷ [] → AreReads b cells next (n + 1)
-reads_more b cells rows next row n whole before read added = record {
-  read = rows_more (λ k r. r ≡ cells_of b (direct_places b (wire_place b cells k))) rows next row n whole before.read read added;
-}
+pub one_longer : (rows next : List (List ℕ)) (row : List ℕ) (count : ℕ) → length rows ≡ count → next ≡ rows ++ row ∷ [] → length next ≡ count + 1
+one_longer rows next row count e added = omega (arith, ap length added, length-append rows (row ∷ []), e)
 
--- one place more of a list
-pub place_taken : (ps : List Pos) (i : ℕ) (p : Pos) (now next : List Pos) → slice_get ps i ≡ Some p → now ≡ take i ps → next ≡ now ++ p ∷ [] → next ≡ take (i + 1) ps
-place_taken ps i p now next there is added =
-    added ∙ ap (λ (qs : List Pos). qs ++ p ∷ []) is
-    ∙ sym (take_more ps i p (slice_get_within ps i p there) ∙ ap (λ (q : Pos). take i ps ++ q ∷ []) (get_or_from_slice_get ps i p p there))
+-- nothing is found at first
+pub none_found : (n k row : ℕ) (A : Type 0) → get_or (replicate n 0) k 0 ≡ row + 1 → A
+none_found zero k row A h = absurd (omega arith)
+none_found (suc n) zero row A h = absurd (omega arith)
+none_found (suc n) (suc k) row A h = none_found n k row A h

@@ -1,17 +1,35 @@
 -- The wires of a build by numbers: what feeds each, and what each reads without dust.
-use Rattle.std.specs.Prelude.{◌≡◌, ℕ, ◌<◌, Bool, List, length, map, filter, get_or}
+use Rattle.std.specs.Prelude.{◌≡◌, ℕ, ◌+◌, ◌<◌, Bool, true, false, List, length, map, filter, get_or}
 use Rattle.std.specs.List.{range_with_len}
+use Rattle.std.specs.Option.{option_map_or}
 use Rattle.circuit.specs.declared.Pos.{Pos}
-use Rattle.build.specs.Plan.{Plan, volume, place_of}
+use Rattle.circuit.specs.Circuit.{Among}
+use Rattle.build.specs.Plan.{Plan, volume, cell_of, place_of, block_at}
+use Rattle.cell_numbers.specs.Numbers.{number_in}
 use Rattle.wire_shape.specs.Shape.{wire_at}
 use Rattle.wire_shape.specs.Feeders.{feeders}
-use Rattle.input_search.specs.Links.{From, among, direct_places}
-use Rattle.input_search.specs.CellLists.{cells_of}
-use Rattle.input_search.specs.Rows.{row_at, is_met, AreBelow}
+use Rattle.wiring.specs.Reads.{is_source}
+use Rattle.input_search.specs.declared.wires.Wiring.{Wiring}
+use Rattle.input_search.specs.declared.search.Search.{Search}
+use Rattle.input_search.specs.Links.{From, among, direct_places, wires_in, links_below}
+use Rattle.input_search.specs.CellLists.{has_cell, cells_of}
+use Rattle.input_search.specs.Rows.{row_at, is_met, has_met, AreBelow}
+
+-- the wires in the first n cells
+abbrev pub wires_below : Plan → ℕ → List ℕ
+wires_below b n = filter (λ i. wire_at b (place_of b i)) (range_with_len 0 n)
+
+-- what can give power in the first n cells
+abbrev pub sources_below : Plan → ℕ → List ℕ
+sources_below b n = filter (λ i. is_source (block_at b (place_of b i))) (range_with_len 0 n)
 
 -- the cells of the wires, in order
-abbrev pub wire_cells : Plan → List ℕ
-wire_cells b = filter (λ i. wire_at b (place_of b i)) (range_with_len 0 (volume b))
+unfoldable pub wire_cells : Plan → List ℕ
+wire_cells b = wires_below b (volume b)
+
+-- the cells of what can give power, in order
+unfoldable pub source_cells : Plan → List ℕ
+source_cells b = sources_below b (volume b)
 
 -- the place of the wire of a number
 abbrev pub wire_place : Plan → List ℕ → ℕ → Pos
@@ -20,22 +38,64 @@ wire_place b cells number = place_of b (get_or cells number 0)
 abbrev pub wire_places : Plan → List ℕ → List ℕ → List Pos
 wire_places b cells numbers = map (wire_place b cells) numbers
 
--- these are the wires, and the numbers of the feeders of each
-pub record AreFeeders (b : Plan) (cells : List ℕ) (rows : List (List ℕ)) (n : ℕ) : Type 0 where
-  pub below : (number : ℕ) → number < n → AreBelow (length cells) (row_at rows number)
-  pub fed : (number : ℕ) → number < n → wire_places b cells (row_at rows number) ≡ feeders b (wire_place b cells number)
+-- the number of the wire at a place, 0 where none stands
+unfoldable pub wire_number : Plan → Pos → ℕ
+wire_number b p = option_map_or (λ (n : ℕ). n) (number_in (wire_cells b) (cell_of b p)) 0
 
--- and the cells of what each reads
-pub record AreReads (b : Plan) (cells : List ℕ) (rows : List (List ℕ)) (n : ℕ) : Type 0 where
-  pub read : (number : ℕ) → number < n → row_at rows number ≡ cells_of b (direct_places b (wire_place b cells number))
+-- the numbers of the feeders of the wire at a place
+abbrev pub feeder_numbers : Plan → Pos → List ℕ
+feeder_numbers b p = map (wire_number b) (feeders b p)
 
--- the wires of the build, with the rows of all
-pub record IsWiring (b : Plan) (cells : List ℕ) (fed read : List (List ℕ)) : Type 0 where
-  pub wires : cells ≡ wire_cells b
-  pub feeders : AreFeeders b cells fed (length cells)
-  pub reads : AreReads b cells read (length cells)
+-- the cells of what it reads
+abbrev pub read_cells : Plan → Pos → List ℕ
+read_cells b p = cells_of b (direct_places b p)
+
+-- the numbers of the feeders of the wire of a number
+unfoldable pub fed_row : Plan → ℕ → List ℕ
+fed_row b number = feeder_numbers b (wire_place b (wire_cells b) number)
+
+-- and the cells of what it reads
+unfoldable pub read_row : Plan → ℕ → List ℕ
+read_row b number = read_cells b (wire_place b (wire_cells b) number)
+
+-- these are the rows of the wire of a number
+pub record AreRows (b : Plan) (feeders reads : List (List ℕ)) (number row : ℕ) : Type 0 where
+  pub inside : row < length feeders
+  pub fed : row_at feeders row ≡ fed_row b number
+  pub read : row_at reads row ≡ read_row b number
+
+-- the wires of the build, with the rows of those that a search came to
+pub record IsWiring (b : Plan) (w : Wiring) : Type 0 where
+  pub wires : w.wires.items ≡ wire_cells b
+  pub cells : w.cells ≡ wire_cells b
+  pub sources : w.sources ≡ source_cells b
+  pub size : length w.slots.items ≡ length (wire_cells b)
+  pub feeders : length w.feeders ≡ w.found
+  pub reads : length w.reads ≡ w.found
+  pub found : (number row : ℕ) → get_or w.slots.items number 0 ≡ row + 1 → AreRows b w.feeders w.reads number row
 
 -- the cells that were met are those from whose places there is a link
 pub record AreLinked (b : Plan) (links : List From) (met : List Bool) : Type 0 where
-  pub size : length met ≡ volume b
-  pub linked : (i : ℕ) → i < volume b → is_met met i ≡ among (map (λ l. l.place) links) (place_of b i)
+  pub size : length met ≡ length (source_cells b)
+  pub linked : (i : ℕ) → i < volume b → has_met (source_cells b) met i ≡ among (map (λ l. l.place) links) (place_of b i)
+
+-- Where a search stands that has looked at less than n steps: at some wires in n steps, and at each of those that was never met before.
+pub record IsAt (b : Plan) (w : Pos) (cells : List ℕ) (n : ℕ) (wires : List ℕ) (met : List Bool) (links : List From) : Type 0 where
+  pub below : AreBelow (length cells) wires
+  pub reached : (i : ℕ) → Among wires i → Among (wires_in b w n) (wire_place b cells i)
+  pub size : length met ≡ length cells
+  pub all : (i : ℕ) → i < length cells → Among (wires_in b w n) (wire_place b cells i) → is_met met i ≡ true
+  pub read : (i : ℕ) → i < length cells → is_met met i ≡ true → has_cell wires i ≡ false → (s : Pos) → Among (direct_places b (wire_place b cells i)) s → among (map (λ l. l.place) links) s ≡ true
+  pub fed : (i j : ℕ) → i < length cells → j < length cells → is_met met i ≡ true → has_cell wires i ≡ false → Among (feeders b (wire_place b cells i)) (wire_place b cells j) → is_met met j ≡ true
+
+-- a search from w has found the links from what is nearer than n steps
+pub record IsSearch (b : Plan) (w : Pos) (n : ℕ) (search : Search) : Type 0 where
+  pub links : search.links.items ≡ links_below b w n
+  pub linked : AreLinked b search.links.items search.linked
+  pub at : IsAt b w (wire_cells b) n search.wires.items search.met search.links.items
+
+-- a search can go on
+pub record IsReady (b : Plan) (search : Search) : Type 0 where
+  pub below : AreBelow (length (wire_cells b)) search.wires.items
+  pub size : length search.met ≡ length (wire_cells b)
+  pub linked : AreLinked b search.links.items search.linked

@@ -1,10 +1,10 @@
 //! Which numbers a search has met.
 
-ghost use Rattle.std.specs.Prelude.{◌≡◌, ◌<◌, [], ◌∷◌, All, OnOk, true, false, not, length, replicate, slice_set, vec_len};
-ghost use Rattle.std.specs.List.{flat_map};
-ghost use Rattle.input_search.specs.Rows.{row_at, is_met, AreBelow, Gathers};
+ghost use Rattle.std.specs.Prelude.{◌≡◌, ◌<◌, ◌||◌, [], ◌∷◌, ℕ, OnOk, IsTrue, true, false, not, length, replicate, slice_set, vec_len};
+ghost use Rattle.input_search.specs.CellLists.{has_cell};
+ghost use Rattle.input_search.specs.Rows.{is_met, has_met, AreBelow, AreListed, Gathers, GathersCells};
 
-use number_rows::Rows;
+use cell_numbers::CellNumbers;
 use rp_text::NoMemory;
 use std::alloc::Global;
 use std::marker::Model;
@@ -80,7 +80,8 @@ pub(crate) fn gather_one(found: &mut Vec<u32>, met: &mut Met, number: u32) -> Re
     Ok(())
 }
 
-fn gather_row(found: &mut Vec<u32>, met: &mut Met, row: &[u32]) -> Result<(), NoMemory>
+/// Meets the numbers of a row, and appends those that weren't met before.
+pub(crate) fn gather_row(found: &mut Vec<u32>, met: &mut Met, row: &[u32]) -> Result<(), NoMemory>
     requires { AreBelow (length met.old) row.now }
     ensures { OnOk result (Gathers row.now met.old met.new found.old.items found.new.items) }
 {
@@ -90,18 +91,50 @@ fn gather_row(found: &mut Vec<u32>, met: &mut Met, row: &[u32]) -> Result<(), No
     Ok(())
 }
 
-/// Meets the numbers of these rows, and appends those that weren't met before.
-pub(crate) fn gather(
+// Meets the number of a listed cell, and says whether it wasn't met before.
+fn meet_cell(met: &mut Met, listed: &CellNumbers, cell: u32) -> bool
+    requires listed { IsTrue (has_cell listed.now cell) }
+    requires size { length met.old ≡ length listed.now }
+    ensures new { result ≡ not (has_met listed.now met.old cell) }
+    ensures met { (i : ℕ) → has_met listed.now met.new i ≡ (has_met listed.now met.old i || has_cell (cell ∷ []) i) }
+    ensures size { length met.new ≡ length met.old }
+{
+    match listed.get(cell as usize) {
+        Some(number) => met.meet(number as u32),
+        None => unreachable!(),
+    }
+}
+
+// Meets a listed cell, and appends it if it wasn't met before.
+fn gather_cell(
     found: &mut Vec<u32>,
     met: &mut Met,
-    rows: &Rows,
-    indices: &[u32],
+    listed: &CellNumbers,
+    cell: u32,
 ) -> Result<(), NoMemory>
-    requires { All (λ index. AreBelow (length met.old) (row_at rows.now index)) indices.now }
-    ensures { OnOk result (Gathers (flat_map (row_at rows.now) indices.now) met.old met.new found.old.items found.new.items) }
+    requires listed { IsTrue (has_cell listed.now cell) }
+    requires size { length met.old ≡ length listed.now }
+    ensures { OnOk result (GathersCells listed.now (cell ∷ []) met.old met.new found.old.items found.new.items) }
 {
-    for index in indices {
-        gather_row(found, met, rows.row(*index as usize))?;
+    if meet_cell(met, listed, cell) {
+        found.push(cell)?;
+    }
+    Ok(())
+}
+
+/// Meets these listed cells by their numbers, and appends those that weren't met before.
+pub(crate) fn gather_cells(
+    found: &mut Vec<u32>,
+    met: &mut Met,
+    listed: &CellNumbers,
+    cells: &[u32],
+) -> Result<(), NoMemory>
+    requires listed { AreListed listed.now cells.now }
+    requires size { length met.old ≡ length listed.now }
+    ensures { OnOk result (GathersCells listed.now cells.now met.old met.new found.old.items found.new.items) }
+{
+    for cell in cells {
+        gather_cell(found, met, listed, *cell)?;
     }
     Ok(())
 }

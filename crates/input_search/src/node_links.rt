@@ -157,12 +157,13 @@ fn links_at(
     scratch: &mut Scratch,
     numbers: &CellNumbers,
     build: &Build,
-    wiring: &Wiring,
+    wiring: &mut Wiring,
     reader: Pos,
 ) -> Result<Vec<Link>, NoMemory>
-    requires wiring { IsWiring build.now wiring.now.cells wiring.now.feeders wiring.now.reads }
+    requires wiring { IsWiring build.now wiring.old }
     requires inside { IsTrue (in_box build.now reader) }
-    ensures { IfOk result (λ links. links.items ≡ numbered_links build.now numbers.now reader) }
+    ensures wiring { OnOk result (IsWiring build.now wiring.new) }
+    ensures links { IfOk result (λ links. links.items ≡ numbered_links build.now numbers.now reader) }
 {
     let Scratch {
         origins,
@@ -185,13 +186,14 @@ fn links_of_node(
     scratch: &mut Scratch,
     numbers: &CellNumbers,
     build: &Build,
-    wiring: &Wiring,
+    wiring: &mut Wiring,
     graph: &Graph,
     number: u32,
 ) -> Result<Vec<Link>, NoMemory>
-    requires wiring { IsWiring build.now wiring.now.cells wiring.now.feeders wiring.now.reads }
+    requires wiring { IsWiring build.now wiring.old }
     requires spread { IsSpread build.now graph.now.nodes }
-    ensures { IfOk result (λ links. AreLinks build.now numbers.now (node_place (node_at graph.now.nodes number)) links.items) }
+    ensures wiring { OnOk result (IsWiring build.now wiring.new) }
+    ensures links { IfOk result (λ links. AreLinks build.now numbers.now (node_place (node_at graph.now.nodes number)) links.items) }
 {
     match place_of_node(graph, Key::new(number)) {
         Some(pos) => links_at(alloc, scratch, numbers, build, wiring, pos),
@@ -211,11 +213,19 @@ fn lists_of(
     ensures length { IfOk result (λ lists. length lists.items ≡ count) }
     ensures links { IfOk result (λ lists. AreLists build.now graph.now.nodes numbers.now count (map (λ list. list.items) lists.items)) }
 {
-    let wiring = Wiring::new(alloc, build)?;
+    let mut wiring = Wiring::new(alloc, build)?;
     let mut scratch = Scratch::new(alloc);
     let mut lists = Vec::new(alloc);
     for number in 0..count {
-        let list = links_of_node(alloc, &mut scratch, numbers, build, &wiring, graph, number)?;
+        let list = links_of_node(
+            alloc,
+            &mut scratch,
+            numbers,
+            build,
+            &mut wiring,
+            graph,
+            number,
+        )?;
         lists.push(list)?;
     }
     Ok(lists)

@@ -17,12 +17,13 @@ fn push_tap_links(
     links: &mut Vec<Origin>,
     search: &mut Search,
     build: &Build,
-    wiring: &Wiring,
+    wiring: &mut Wiring,
     tap: Tap,
 ) -> Result<(), NoMemory>
-    requires wiring { IsWiring build.now wiring.now.cells wiring.now.feeders wiring.now.reads }
+    requires wiring { IsWiring build.now wiring.old }
     requires tap { IsWireTap build.now tap }
-    ensures { OnOk result (links.new.items ≡ links.old.items ++ tap_links build.now tap) }
+    ensures wiring { OnOk result (IsWiring build.now wiring.new) }
+    ensures links { OnOk result (links.new.items ≡ links.old.items ++ tap_links build.now tap) }
 {
     match tap {
         Tap::Direct(place) => links.push(Origin { place, weight: 0 })?,
@@ -38,12 +39,13 @@ fn push_through(
     links: &mut Vec<Origin>,
     search: &mut Search,
     build: &Build,
-    wiring: &Wiring,
+    wiring: &mut Wiring,
     taps: &[Tap],
 ) -> Result<(), NoMemory>
-    requires wiring { IsWiring build.now wiring.now.cells wiring.now.feeders wiring.now.reads }
+    requires wiring { IsWiring build.now wiring.old }
     requires taps { All (IsWireTap build.now) taps.now }
-    ensures { OnOk result (links.new.items ≡ links.old.items ++ through build.now taps.now) }
+    ensures wiring { OnOk result (IsWiring build.now wiring.new) }
+    ensures links { OnOk result (links.new.items ≡ links.old.items ++ through build.now taps.now) }
 {
     for tap in taps {
         push_tap_links(links, search, build, wiring, *tap)?;
@@ -57,12 +59,13 @@ pub(crate) fn push_back_links(
     taps: &mut Vec<Tap>,
     search: &mut Search,
     build: &Build,
-    wiring: &Wiring,
+    wiring: &mut Wiring,
     reader: Pos,
 ) -> Result<(), NoMemory>
-    requires wiring { IsWiring build.now wiring.now.cells wiring.now.feeders wiring.now.reads }
+    requires wiring { IsWiring build.now wiring.old }
     requires inside { IsTrue (in_box build.now reader) }
-    ensures { OnOk result (links.new.items ≡ links.old.items ++ back_links_of build.now reader (block_at build.now reader)) }
+    ensures wiring { OnOk result (IsWiring build.now wiring.new) }
+    ensures links { OnOk result (links.new.items ≡ links.old.items ++ back_links_of build.now reader (block_at build.now reader)) }
 {
     taps.clear();
     push_reader_taps(taps, build, reader)?;
@@ -75,12 +78,13 @@ pub(crate) fn push_side_links(
     taps: &mut Vec<Tap>,
     search: &mut Search,
     build: &Build,
-    wiring: &Wiring,
+    wiring: &mut Wiring,
     reader: Pos,
 ) -> Result<(), NoMemory>
-    requires wiring { IsWiring build.now wiring.now.cells wiring.now.feeders wiring.now.reads }
+    requires wiring { IsWiring build.now wiring.old }
     requires inside { IsTrue (in_box build.now reader) }
-    ensures { OnOk result (links.new.items ≡ links.old.items ++ side_links_of build.now reader (block_at build.now reader)) }
+    ensures wiring { OnOk result (IsWiring build.now wiring.new) }
+    ensures links { OnOk result (links.new.items ≡ links.old.items ++ side_links_of build.now reader (block_at build.now reader)) }
 {
     taps.clear();
     push_reader_side_taps(taps, build, reader)?;

@@ -1,14 +1,15 @@
 //! The links of a wire tap: what can be read along its feeders, one distance after another.
 
-ghost use Rattle.std.specs.Prelude.{◌≡◌, ℕ, ◌<◌, [], ◌++◌, All, OnOk, IsTrue, length, map};
+ghost use Rattle.std.specs.Prelude.{◌≡◌, ℕ, ◌+◌, ◌<◌, ◌++◌, All, OnOk, IsTrue, length, map};
 ghost use Rattle.std.specs.List.{flat_map};
+ghost use Rattle.circuit.specs.declared.Pos.{Pos};
 ghost use Rattle.wire_shape.specs.Shape.{wire_at};
 ghost use Rattle.input_search.specs.CellLists.{kept_cells, places_of, AreCells};
-ghost use Rattle.input_search.specs.Links.{at_weight, direct_places, with_distance, wire_links};
-ghost use Rattle.input_search.specs.Rows.{row_at, AreBelow, Gathers};
-ghost use Rattle.input_search.specs.Wiring.{wire_places, AreLinked, IsWiring};
+ghost use Rattle.input_search.specs.Links.{at_weight, wire_links};
+ghost use Rattle.input_search.specs.Rows.{AreBelow, Gathers, GathersCells};
+ghost use Rattle.input_search.specs.Wiring.{wire_cells, source_cells, wire_place, fed_row, read_row, IsReady, IsSearch, IsWiring};
 
-use crate::met::{Met, gather, gather_one};
+use crate::met::{Met, gather_cells, gather_one, gather_row};
 use crate::wires::{Wiring, wire_number};
 use build::Build;
 use circuit::Pos;
@@ -53,41 +54,50 @@ fn push_links(
     Ok(())
 }
 
-// Adds the links of one more distance.
-fn add_distance(
-    links: &mut Vec<Origin>,
+// Meets the feeders of a wire, and what it reads.
+fn look_at(
+    next: &mut Vec<u32>,
+    met: &mut Met,
     cells: &mut Vec<u32>,
     linked: &mut Met,
     build: &Build,
-    wiring: &Wiring,
-    wires: &[u32],
-    distance: u8,
+    wiring: &mut Wiring,
+    wire: u32,
 ) -> Result<(), NoMemory>
-    requires wiring { IsWiring build.now wiring.now.cells wiring.now.feeders wiring.now.reads }
-    requires wires { AreBelow (length wiring.now.cells) wires.now }
-    requires linked { AreLinked build.now links.old.items linked.old }
-    ensures links { OnOk result (links.new.items ≡ with_distance build.now distance (flat_map (direct_places build.now) (wire_places build.now wiring.now.cells wires.now)) links.old.items) }
-    ensures linked { OnOk result (AreLinked build.now links.new.items linked.new) }
+    requires wiring { IsWiring build.now wiring.old }
+    requires wire { wire < length (wire_cells build.now) }
+    requires met { length met.old ≡ length (wire_cells build.now) }
+    requires linked { length linked.old ≡ length (source_cells build.now) }
+    ensures wiring { OnOk result (IsWiring build.now wiring.new) }
+    ensures fed { OnOk result (Gathers (fed_row build.now wire) met.old met.new next.old.items next.new.items) }
+    ensures read { OnOk result (GathersCells (source_cells build.now) (read_row build.now wire) linked.old linked.new cells.old.items cells.new.items) }
 {
-    cells.clear();
-    gather(cells, linked, &wiring.reads, wires)?;
-    put_in_order(cells);
-    push_links(links, build, cells, distance)
+    let row = wiring.rows_of(build, wire)? as usize;
+    gather_cells(cells, linked, &wiring.sources, wiring.reads.row(row))?;
+    gather_row(next, met, wiring.feeders.row(row))
 }
 
-// Puts those feeders of the wires that weren't met before in place of these.
-fn go_on(
-    wires: &mut Vec<u32>,
+// Meets the feeders of these wires, and what they read.
+fn look_around(
     next: &mut Vec<u32>,
     met: &mut Met,
-    wiring: &Wiring,
+    cells: &mut Vec<u32>,
+    linked: &mut Met,
+    build: &Build,
+    wiring: &mut Wiring,
+    wires: &[u32],
 ) -> Result<(), NoMemory>
-    requires { All (λ wire. AreBelow (length met.old) (row_at wiring.now.feeders wire)) wires.old.items }
-    ensures { OnOk result (Gathers (flat_map (row_at wiring.now.feeders) wires.old.items) met.old met.new [] wires.new.items) }
+    requires wiring { IsWiring build.now wiring.old }
+    requires wires { AreBelow (length (wire_cells build.now)) wires.now }
+    requires met { length met.old ≡ length (wire_cells build.now) }
+    requires linked { length linked.old ≡ length (source_cells build.now) }
+    ensures wiring { OnOk result (IsWiring build.now wiring.new) }
+    ensures fed { OnOk result (Gathers (flat_map (fed_row build.now) wires.now) met.old met.new next.old.items next.new.items) }
+    ensures read { OnOk result (GathersCells (source_cells build.now) (flat_map (read_row build.now) wires.now) linked.old linked.new cells.old.items cells.new.items) }
 {
-    next.clear();
-    gather(next, met, &wiring.feeders, wires)?;
-    mem::swap(wires, next);
+    for wire in wires {
+        look_at(next, met, cells, linked, build, wiring, *wire)?;
+    }
     Ok(())
 }
 
@@ -96,6 +106,7 @@ fn go_on(
 pub(crate) struct Search {
     pub(crate) links: Vec<Origin>,
     wires: Vec<u32>,
+    next: Vec<u32>,
     cells: Vec<u32>,
     met: Met,
     linked: Met,
@@ -106,6 +117,7 @@ impl Search {
         Search {
             links: Vec::new(alloc),
             wires: Vec::new(alloc),
+            next: Vec::new(alloc),
             cells: Vec::new(alloc),
             met: Met::new(alloc),
             linked: Met::new(alloc),
@@ -113,32 +125,72 @@ impl Search {
     }
 }
 
-/// Finds the links of the wire tap at a place.
-pub(crate) fn find_links(
-    search: &mut Search,
-    build: &Build,
-    wiring: &Wiring,
-    wire: Pos,
-) -> Result<(), NoMemory>
-    requires wiring { IsWiring build.now wiring.now.cells wiring.now.feeders wiring.now.reads }
-    requires wire { IsTrue (wire_at build.now wire) }
-    ensures { OnOk result (search.new.links.items ≡ wire_links build.now wire) }
+// Begins a search from a wire.
+fn begin(search: &mut Search, build: &Build, wiring: &Wiring, number: u32) -> Result<(), NoMemory>
+    requires wiring { IsWiring build.now wiring.now }
+    requires number { number < length (wire_cells build.now) }
+    ensures { OnOk result (IsSearch build.now (wire_place build.now (wire_cells build.now) number) 0 search.new) }
 {
     let Search {
         links,
         wires,
-        cells,
         met,
         linked,
+        ..
     } = search;
     links.clear();
     wires.clear();
     met.start(wiring.cells.len())?;
-    linked.start(build.cells())?;
-    gather_one(wires, met, wire_number(build, &wiring.cells, wire))?;
+    linked.start(wiring.sources.len())?;
+    gather_one(wires, met, number)
+}
+
+// Adds the links of one more distance, and puts those feeders of the wires that weren't met before
+// in place of these.
+fn go_on(
+    search: &mut Search,
+    build: &Build,
+    wiring: &mut Wiring,
+    distance: u8,
+) -> Result<(), NoMemory>
+    requires wiring { IsWiring build.now wiring.old }
+    requires ready { IsReady build.now search.old }
+    ensures wiring { OnOk result (IsWiring build.now wiring.new) }
+    ensures next { OnOk result ((w : Pos) → IsTrue (wire_at build.now w) → IsSearch build.now w distance search.old → IsSearch build.now w (distance + 1) search.new) }
+{
+    let Search {
+        links,
+        wires,
+        next,
+        cells,
+        met,
+        linked,
+    } = search;
+    next.clear();
+    cells.clear();
+    look_around(next, met, cells, linked, build, wiring, wires)?;
+    put_in_order(cells);
+    push_links(links, build, cells, distance)?;
+    mem::swap(wires, next);
+    Ok(())
+}
+
+/// Finds the links of the wire tap at a place.
+pub(crate) fn find_links(
+    search: &mut Search,
+    build: &Build,
+    wiring: &mut Wiring,
+    wire: Pos,
+) -> Result<(), NoMemory>
+    requires wiring { IsWiring build.now wiring.old }
+    requires wire { IsTrue (wire_at build.now wire) }
+    ensures wiring { OnOk result (IsWiring build.now wiring.new) }
+    ensures links { OnOk result (search.new.links.items ≡ wire_links build.now wire) }
+{
+    let number = wire_number(build, &wiring.cells, wire);
+    begin(search, build, wiring, number)?;
     for distance in 0..DISTANCES {
-        add_distance(links, cells, linked, build, wiring, wires, distance)?;
-        go_on(wires, cells, met, wiring)?;
+        go_on(search, build, wiring, distance)?;
     }
     Ok(())
 }

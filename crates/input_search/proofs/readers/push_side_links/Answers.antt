@@ -18,10 +18,10 @@ push_through-requires-clause-taps c =
     let Wired : List Tap → Type 0 = All (IsWireTap b) in
     subst Wired (sym (c.deref.ensures.value ∙ is)) (reader_sides_wired b p (block_at b p))
 
-pub returns : goal.returns
-returns c =
+pub returns-clause-links : goal.returns-clause-links
+returns-clause-links c =
     let b : Plan = c.args.build.now in
     let p : Pos = c.args.reader in
     let is : c.push_reader_side_taps.new.taps.items ≡ reader_side_taps b p (block_at b p) = c.in_ok-push_reader_side_taps.ensures ∙ ap (λ (taps : List Tap). taps ++ reader_side_taps b p (block_at b p)) c.clear.ensures.items in
     on_ok_weaker c.push_through.result
-    (λ e. e ∙ ap (λ (links : List From). c.args.links.now.items ++ links) (ap (through b) (c.deref.ensures.value ∙ is) ∙ side_through b p (block_at b p))) c.push_through.ensures
+    (λ e. e ∙ ap (λ (links : List From). c.args.links.now.items ++ links) (ap (through b) (c.deref.ensures.value ∙ is) ∙ side_through b p (block_at b p))) c.push_through.ensures.links
