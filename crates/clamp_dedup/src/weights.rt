@@ -1,9 +1,9 @@
 //! The least weights of links, by source and group.
 
-ghost use Rattle.std.specs.Prelude.{◌≡◌, ◌≤◌, ◌<◌, ◌↔◌, IfOk, IsTrue, EachIndex, length, slice_index, slice_set};
+ghost use Rattle.std.specs.Prelude.{◌≡◌, ◌≤◌, ◌<◌, ◌↔◌, IfOk, IsTrue, length, slice_set};
 ghost use Rattle.clamp_dedup.specs.Weights.{group_number, slot_of, weight_in, lesser, IsEmpty, HasSlots};
 
-use graph::{Group, Link, NodeKey};
+use graph::{Group, Link, NodeKey, greatest_number};
 use rp_text::NoMemory;
 use std::alloc::Global;
 
@@ -19,7 +19,7 @@ impl Weights {
         ensures empty { IfOk result (λ weights. IsEmpty weights.slots.items) }
         ensures room { IfOk result (λ weights. HasSlots weights.slots.items keys.now) }
     {
-        let count = 2 * (greatest(keys) as usize + 1);
+        let count = 2 * (greatest_number(keys) as usize + 1);
         let slots = vec![in alloc; None; count]?;
         Ok(Weights { slots })
     }
@@ -51,13 +51,6 @@ impl Weights {
         let slot = slot_of(link);
         self.slots[slot] = None;
     }
-}
-
-// The greatest number of these keys, 0 where there is none.
-fn greatest(keys: &[NodeKey]) -> u32
-    ensures { EachIndex keys.now (λ index. slice_index keys.now index ≤ result) }
-{
-    keys.iter().map(|key| key.number()).max().unwrap_or(0)
 }
 
 // The slot of the links from this source in this group.

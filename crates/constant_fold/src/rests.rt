@@ -3,14 +3,14 @@
 ghost use Rattle.std.specs.Prelude.{◌≡◌, ◌≤◌, Some};
 ghost use Rattle.circuit.specs.Component.{top};
 ghost use Rattle.graph.specs.Graph.{node_at};
-ghost use Rattle.graph.specs.Readings.{share, reading, back_of, readings_of};
+ghost use Rattle.graph.specs.Readings.{share, reading, readings_of};
 ghost use Rattle.graph.specs.Sound.{IsSound, IsSoundNode};
-ghost use Rattle.graph.specs.Steps.{fixed, fixed_out};
+ghost use Rattle.graph.specs.Steps.{fixed};
 ghost use Rattle.graph.specs.Stored.{plain};
 ghost use Rattle.constant_fold.specs.Foldable.{is_constant_kind, is_constant, folding_part, part_of, part_at, rest_value, rest_value_at, are_fixed, fold_value, fold_value_at};
 
 use circuit::{Component, Readings, goal, locked, out};
-use graph::{Graph, Group, Kind, Link, Node, NodeKey};
+use graph::{Graph, Group, Kind, Link, Node, NodeKey, back_of, fixed_at};
 
 // The component of the node, if it may be folded and has no pending tick.
 pub fn part_at(graph: &Graph, key: NodeKey) -> Option<Component>
@@ -139,31 +139,6 @@ fn fixed_readings(graph: &Graph, node: &Node) -> Readings
     }
 }
 
-// The back reading of a node whose Back links bring so much.
-fn back_of(kind: Kind, power: u8) -> u8
-    ensures { result ≡ back_of kind power }
-{
-    match kind {
-        Kind::Comparator {
-            direct: Some(direct),
-            ..
-        } => direct,
-        Kind::Comparator { far: Some(far), .. } if power < 15 => far,
-        Kind::Lever
-        | Kind::Button { .. }
-        | Kind::Plate
-        | Kind::Weighted
-        | Kind::Torch
-        | Kind::Repeater { .. }
-        | Kind::Comparator { .. }
-        | Kind::Lamp
-        | Kind::Trapdoor
-        | Kind::Note
-        | Kind::Wire
-        | Kind::Constant => power,
-    }
-}
-
 fn fixed_reading(graph: &Graph, group: Group, links: &[Link]) -> u8
     ensures { result ≡ reading (fixed graph.now.nodes) group links.now }
 {
@@ -182,34 +157,5 @@ fn share(graph: &Graph, group: Group, link: &Link) -> u8
             fixed_at(graph, link.from).saturating_sub(link.weight)
         }
         _ => 0,
-    }
-}
-
-// What a Constant gives, 0 for every other node.
-fn fixed_at(graph: &Graph, key: NodeKey) -> u8
-    ensures { result ≡ fixed graph.now.nodes key }
-{
-    match graph.node(key) {
-        Some(node) => fixed_out(node.kind, node.state),
-        None => 0,
-    }
-}
-
-fn fixed_out(kind: Kind, state: u8) -> u8
-    ensures { result ≡ fixed_out kind state }
-{
-    match kind {
-        Kind::Constant => state,
-        Kind::Lever
-        | Kind::Button { .. }
-        | Kind::Plate
-        | Kind::Weighted
-        | Kind::Torch
-        | Kind::Repeater { .. }
-        | Kind::Comparator { .. }
-        | Kind::Lamp
-        | Kind::Trapdoor
-        | Kind::Note
-        | Kind::Wire => 0,
     }
 }

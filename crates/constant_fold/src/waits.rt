@@ -1,9 +1,9 @@
 //! Nodes that are to be looked at, and nodes that wait for another one.
 
-ghost use Rattle.std.specs.Prelude.{◌≡◌, ℕ, ◌≤◌, ◌<◌, [], ◌∷◌, ◌++◌, map, reverse, EachIndex, IfOk, OnOk, length, slice_index};
+ghost use Rattle.std.specs.Prelude.{◌≡◌, ℕ, ◌<◌, [], ◌∷◌, ◌++◌, map, reverse, IfOk, OnOk, length};
 ghost use Rattle.constant_fold.specs.Tended.{waiting_for, IsAdded, IsEmptied, IsFresh};
 
-use graph::NodeKey;
+use graph::{NodeKey, greatest_number};
 use rp_text::NoMemory;
 use std::alloc::Global;
 use std::mem;
@@ -28,7 +28,7 @@ impl Waits {
         ensures { IfOk result (λ waits. IsFresh keys.now waits.work.items waits.lists.items) }
     {
         let work = first_looks(alloc, keys)?;
-        let lists = empty_lists(alloc, greatest(keys) as usize + 1)?;
+        let lists = empty_lists(alloc, greatest_number(keys) as usize + 1)?;
         Ok(Waits { work, lists })
     }
 
@@ -78,11 +78,4 @@ fn empty_lists(alloc: Global, count: usize) -> Result<Vec<Vec<Wait>>, NoMemory>
         lists.push(Vec::new(alloc))?;
     }
     Ok(lists)
-}
-
-// The greatest number of these keys, 0 where there is none.
-fn greatest(keys: &[NodeKey]) -> u32
-    ensures { EachIndex keys.now (λ index. slice_index keys.now index ≤ result) }
-{
-    keys.iter().map(|key| key.number()).max().unwrap_or(0)
 }

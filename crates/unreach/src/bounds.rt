@@ -1,14 +1,14 @@
 //! What each node never passes.
 
-ghost use Rattle.std.specs.Prelude.{◌≡◌, ◌<◌, ◌≤◌, Some, EachIndex, IfOk, length, slice_index, slice_index_or};
+ghost use Rattle.std.specs.Prelude.{◌≡◌, Some, IfOk, length, slice_index_or};
 ghost use Rattle.graph.specs.declared.Group.TheVariants.{Side as SideGroup};
 ghost use Rattle.graph.specs.Graph.{node_at};
 ghost use Rattle.graph.specs.Readings.{share, reading};
-ghost use Rattle.graph.specs.Steps.{fixed, fixed_out, bound_of, bound_at};
+ghost use Rattle.graph.specs.Steps.{fixed, bound_of, bound_at};
 ghost use Rattle.graph.specs.Stored.{plain};
 ghost use Rattle.unreach.specs.Reached.{HasBoundsOf};
 
-use graph::{Graph, Group, Kind, Link, Node, NodeKey};
+use graph::{Graph, Group, Kind, Link, Node, NodeKey, fixed_at, greatest_number};
 use rp_text::NoMemory;
 use std::alloc::Global;
 
@@ -25,7 +25,7 @@ impl Bounds {
     pub fn new(alloc: Global, graph: &Graph, keys: &[NodeKey]) -> Result<Bounds, NoMemory>
         ensures { IfOk result (λ bounds. HasBoundsOf graph.now.nodes keys.now bounds.list.items) }
     {
-        let count = greatest(keys) as usize + 1;
+        let count = greatest_number(keys) as usize + 1;
         let mut list = vec![in alloc; 0; count]?;
         for key in keys {
             list[key.number() as usize] = bound_at(graph, *key);
@@ -42,13 +42,6 @@ impl Bounds {
             None => 0,
         }
     }
-}
-
-// The greatest number of these keys, 0 where there is none.
-fn greatest(keys: &[NodeKey]) -> u32
-    ensures { EachIndex keys.now (λ index. slice_index keys.now index ≤ result) }
-{
-    keys.iter().map(|key| key.number()).max().unwrap_or(0)
 }
 
 fn bound_at(graph: &Graph, key: NodeKey) -> u8
@@ -103,34 +96,5 @@ fn side_share(graph: &Graph, link: &Link) -> u8
     match link.group {
         Group::Side => fixed_at(graph, link.from).saturating_sub(link.weight),
         Group::Back => 0,
-    }
-}
-
-// What a Constant gives, 0 for every other node.
-fn fixed_at(graph: &Graph, key: NodeKey) -> u8
-    ensures { result ≡ fixed graph.now.nodes key }
-{
-    match graph.node(key) {
-        Some(node) => fixed_out(node.kind, node.state),
-        None => 0,
-    }
-}
-
-fn fixed_out(kind: Kind, state: u8) -> u8
-    ensures { result ≡ fixed_out kind state }
-{
-    match kind {
-        Kind::Constant => state,
-        Kind::Lever
-        | Kind::Button { .. }
-        | Kind::Plate
-        | Kind::Weighted
-        | Kind::Torch
-        | Kind::Repeater { .. }
-        | Kind::Comparator { .. }
-        | Kind::Lamp
-        | Kind::Trapdoor
-        | Kind::Note
-        | Kind::Wire => 0,
     }
 }
