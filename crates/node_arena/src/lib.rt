@@ -222,7 +222,7 @@ fn keys_in_use<M>(alloc: Global, places: &[Option<usize>]) -> Result<Vec<Key<M>>
     requires { length places.now < 2 ^ 32 }
     ensures { IfOk result (λ keys. keys.items ≡ keys_of places.now) }
 {
-    let mut keys = Vec::new(alloc);
+    let mut keys = Vec::with_capacity(alloc, places.len())?;
     for (number, place) in places.iter().enumerate() {
         if place.is_some() {
             keys.push(Key::new(number as u32))?;
