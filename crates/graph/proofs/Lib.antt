@@ -17,3 +17,4 @@ pub mod GapSteps
 pub mod SieveSteps
 pub mod Bounds
 pub mod FoldSteps
+pub mod KeyBounds

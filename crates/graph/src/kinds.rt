@@ -1,6 +1,6 @@
 //! What a kind of node is, and what it gives and reads.
 
-ghost use Rattle.std.specs.Prelude.{◌≡◌, ◌≤◌, EachIndex, slice_index};
+ghost use Rattle.std.specs.Prelude.{◌≡◌, ◌≤◌};
 ghost use Rattle.graph.specs.GraphCircuit.{role_of};
 ghost use Rattle.graph.specs.Readings.{back_of};
 ghost use Rattle.graph.specs.Sound.{can_wait, top_of};
@@ -121,11 +121,4 @@ pub fn fixed_at(graph: &Graph, key: NodeKey) -> u8
         Some(node) => fixed_out(node.kind, node.state),
         None => 0,
     }
-}
-
-/// The greatest number of these keys, 0 where there is none.
-pub fn greatest_number(keys: &[NodeKey]) -> u32
-    ensures { EachIndex keys.now (λ index. slice_index keys.now index ≤ result) }
-{
-    keys.iter().map(|key| key.number()).max().unwrap_or(0)
 }

@@ -16,7 +16,8 @@ ghost use Rattle.graph.specs.Clicks.{HasAnswer, HasWire, IsClickInRange};
 ghost use Rattle.graph.specs.GraphText.{graph_text};
 
 pub use circuit::{Click, Pos};
-pub use kinds::{back_of, can_wait, fixed_at, fixed_out, greatest_number, role_of, top_of};
+pub use keys::{count_keys, greatest_number};
+pub use kinds::{back_of, can_wait, fixed_at, fixed_out, role_of, top_of};
 use node_arena::{Arena, Key};
 use rp_text::{NoMemory, push_bytes};
 pub use sieve::Sieve;
@@ -25,6 +26,7 @@ use std::alloc::Global;
 use std::marker::Model;
 
 mod edits;
+mod keys;
 mod kinds;
 pub mod laws;
 mod reads;

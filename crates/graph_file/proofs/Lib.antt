@@ -2,7 +2,6 @@ pub mod Turns
 pub mod SpotSteps
 pub mod NodeSteps
 pub mod ValueCauses
-pub mod KeyBounds
 pub mod ValueSteps
 pub mod CauseSteps
 pub mod Rounds

@@ -12,8 +12,7 @@ ghost use Rattle.graph_file.specs.Placed.{with_kind, kind_at, kind_answers, kind
 ghost use Rattle.graph_file.specs.Targets.{takes_click, is_wire_at};
 
 use crate::targets::is_weighable;
-use crate::writing::count_keys;
-use graph::{Graph, Kind, Node};
+use graph::{Graph, Kind, Node, count_keys};
 use node_arena::Key;
 use rp_text::NoMemory;
 use script::{Click, Pos, Targets};

@@ -1,6 +1,6 @@
 //! A graph as JSON.
 
-ghost use Rattle.std.specs.Prelude.{◌≡◌, ℕ, ◌+◌, ◌<◌, ◌≤◌, ◌^◌, max, [], ◌∷◌, ◌++◌, None, All, Option, map, option_map, option_copied, get_or, IfOk, OnOk};
+ghost use Rattle.std.specs.Prelude.{◌≡◌, ℕ, ◌+◌, ◌<◌, ◌≤◌, ◌^◌, [], ◌∷◌, ◌++◌, None, Option, map, option_map, option_copied, get_or, IfOk, OnOk};
 ghost use Rattle.serde_json.specs.Data.{put};
 ghost use Rattle.serde_json.specs.View.{view, members_view};
 ghost use Rattle.graph.specs.Graph.{node_at};
@@ -9,7 +9,7 @@ ghost use Rattle.graph.specs.Stored.{plain};
 ghost use Rattle.graph_file.specs.Json.{own_number, number_after, number_of, packed, whole_data, count, list, place_data, with_strength, with_detail, node_members, node_data, entries_data, group_number, json, json_text};
 ghost use Rattle.graph_file.specs.Sending.{entry_data, sent_link, sent_at, sent_links};
 
-use graph::{Graph, Group, Kind, Link, Node, NodeKey, Pos};
+use graph::{Graph, Group, Kind, Link, Node, Pos, count_keys};
 use node_arena::Key;
 use rp_text::NoMemory;
 use serde_json::{Map, Value, put};
@@ -236,33 +236,6 @@ fn link_values(
         )?;
     }
     Ok(values)
-}
-
-fn larger(one: usize, other: usize) -> usize
-    ensures { result ≡ max one other }
-{
-    if one < other { other } else { one }
-}
-
-// One more than the last key, or 0 where there is none.
-fn count_of(keys: &[NodeKey]) -> usize
-    ensures above { All (λ key. key < result) keys.now }
-    ensures few { result ≤ 2 ^ 32 }
-{
-    let mut count = 0;
-    for key in keys {
-        count = larger(count, key.number() as usize + 1);
-    }
-    count
-}
-
-// So many keys are enough for the nodes of the graph.
-pub fn count_keys(graph: &Graph) -> Result<usize, NoMemory>
-    ensures past { IfOk result (λ count. (key : ℕ) → count ≤ key → node_at graph.now.nodes key ≡ None) }
-    ensures few { IfOk result (λ count. count ≤ 2 ^ 32) }
-{
-    let keys = graph.keys()?;
-    Ok(count_of(&keys))
 }
 
 // Adds the number of one key more, and gives the next number.

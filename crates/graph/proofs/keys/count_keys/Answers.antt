@@ -1,7 +1,7 @@
 use Rattle.std.proofs.Common.{◌<◌, ℕ, ◌∙◌, subst, arith, List}
 use Rattle.std.specs.Prelude.{All}
-use Rattle.graph_file.proofs.KeyBounds.{keys_above}
-use Rattle.graph_file.proofs.writing.count_keys.Goals as goal
+use Rattle.graph.proofs.KeyBounds.{keys_above}
+use Rattle.graph.proofs.keys.count_keys.Goals as goal
 
 pub returns-clause-past : goal.returns-clause-past
 returns-clause-past c key past =

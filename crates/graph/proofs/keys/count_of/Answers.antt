@@ -1,6 +1,6 @@
 use Rattle.std.proofs.Common.{◌≡◌, ◌<◌, ℕ, ◌∙◌, subst, arith, get_or, below_more}
-use Rattle.graph_file.proofs.KeyBounds.{same_default}
-use Rattle.graph_file.proofs.writing.count_of.Goals as goal
+use Rattle.graph.proofs.KeyBounds.{same_default}
+use Rattle.graph.proofs.keys.count_of.Goals as goal
 
 pub loop-key-preserved : goal.loop-key-preserved
 loop-key-preserved c =
