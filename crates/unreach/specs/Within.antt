@@ -13,7 +13,7 @@ use Rattle.circuit.specs.Bounds.{Bounded}
 use Rattle.circuit.proofs.Bounded.{outs_le, bounded_is_invariant}
 use Rattle.circuit.proofs.Matches.{IsInvariant}
 use Rattle.graph.specs.declared.Kind.{Kind}
-use Rattle.graph.specs.declared.Kind.TheVariants.{Comparator, Constant}
+use Rattle.graph.specs.declared.Kind.TheVariants.{Lever, Button, Plate, Weighted, Torch, Repeater, Comparator, Lamp, Trapdoor, Note, Wire, Constant}
 use Rattle.graph.specs.declared.Group.TheVariants.{Side}
 use Rattle.graph.specs.Graph.{Node, Nodes, node_at}
 use Rattle.graph.specs.Readings.{reading}
@@ -27,7 +27,18 @@ use Rattle.graph.proofs.Shares.{reading-more}
 -- a value within what a comparator that subtracts never passes, where Constants give so much
 abbrev pub WithinKind : (ℕ → ℕ) → Node → Kind → ℕ → Type 0
 WithinKind given node (Comparator true direct far) value = value ≤ max node.state (15 - reading given Side node.links)
-WithinKind given node kind value = Unit {0}
+WithinKind given node (Comparator false direct far) value = Unit {0}
+WithinKind given node Lever value = Unit {0}
+WithinKind given node (Button delay) value = Unit {0}
+WithinKind given node Plate value = Unit {0}
+WithinKind given node Weighted value = Unit {0}
+WithinKind given node Torch value = Unit {0}
+WithinKind given node (Repeater delay) value = Unit {0}
+WithinKind given node Lamp value = Unit {0}
+WithinKind given node Trapdoor value = Unit {0}
+WithinKind given node Note value = Unit {0}
+WithinKind given node Wire value = Unit {0}
+WithinKind given node Constant value = Unit {0}
 
 abbrev pub WithinEntry : (ℕ → ℕ) → Option Node → Cell → Type 0
 WithinEntry given None cell = Unit {0}
