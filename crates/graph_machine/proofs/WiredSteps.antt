@@ -9,16 +9,19 @@ use Rattle.circuit.specs.declared.Readings.{Readings}
 use Rattle.graph.specs.declared.Group.{Group}
 use Rattle.graph.specs.declared.Group.TheVariants.{Back, Side}
 use Rattle.graph.specs.declared.Link.{Link}
+use Rattle.graph.specs.declared.Kind.{Kind}
+use Rattle.graph.specs.declared.Kind.TheVariants.{Lever, Button, Plate, Weighted, Torch, Repeater, Comparator, Lamp, Trapdoor, Note, Wire, Constant}
 use Rattle.graph.specs.Graph.{Node, Nodes, node_at}
 use Rattle.graph.specs.Readings.{reading, back_of}
 use Rattle.graph.specs.GraphCircuit.{readings_at}
 use Rattle.link_counts.specs.declared.counts.Counts.{Counts}
 use Rattle.graph_machine.specs.declared.links.OutLink.{OutLink}
 use Rattle.graph_machine.specs.declared.net.Part.{Part}
+use Rattle.graph_machine.specs.declared.net.Brief.{Brief}
 use Rattle.graph_machine.specs.Outgoing.{links_at, links_from}
 use Rattle.link_counts.specs.Counted.{one_if, count_at, tally}
 use Rattle.graph_machine.specs.Counted.{is_strength, brings, IsCounted, row, hits, comes, IsTurned}
-use Rattle.graph_machine.specs.Wired.{given, part_of, part_at, targets_of, targets_in, IsWired, IsTarget, AreTargets, IsGreatest, ReadsBy, ReadBy, part_readings}
+use Rattle.graph_machine.specs.Wired.{given, part_at, rule_of, back_by, brief_by, targets_of, targets_in, IsWired, IsTarget, AreTargets, IsGreatest, ReadsBy}
 use Rattle.graph_machine.proofs.CountSteps.{count_cons, reading_is, counts_change, comes-le, Moved}
 
 -- the greatest strength that is counted is the reading
@@ -28,26 +31,44 @@ greatest_is given group links counts strength small counted greatest = reading_i
     (λ some. subst (λ n. 0 < n) (counted strength greatest.small) (greatest.some some))
     (λ other above below. sym (counted other below) ∙ greatest.none other above below)
 
-pub readings_are : (given : ℕ → ℕ) (entry : Option Node) (part : Option Part) (counts : Counts) (readings : Readings) → ((key : ℕ) → given key < 16) → part ≡ part_at entry →
-    ((group : Group) (s : ℕ) → s < 16 → count_at counts group s ≡ count_by (brings given group s) (links_at entry)) → ReadBy part counts readings → readings ≡ readings_at given entry
-readings_are given None part counts readings small here counted read = subst (λ (p : Option Part). ReadBy p counts readings) here read
-readings_are given (Some node) part counts readings small here counted read =
-    let by : ReadsBy (part_of node) counts readings = subst (λ (p : Option Part). ReadBy p counts readings) here read in
+-- the rule gives the back reading
+rule_is : (kind : Kind) (power : ℕ) → back_by (rule_of kind) power ≡ back_of kind power
+rule_is (Comparator subtract (Some direct) far) power = refl
+rule_is (Comparator subtract None (Some far)) power = refl
+rule_is (Comparator subtract None None) power = refl
+rule_is Lever power = refl
+rule_is (Button delay) power = refl
+rule_is Plate power = refl
+rule_is Weighted power = refl
+rule_is Torch power = refl
+rule_is (Repeater delay) power = refl
+rule_is Lamp power = refl
+rule_is Trapdoor power = refl
+rule_is Note power = refl
+rule_is Wire power = refl
+rule_is Constant power = refl
+
+-- nothing is counted where no link is
+greatest_none : (counts : Counts) (group : Group) (strength : ℕ) → ((s : ℕ) → s < 16 → count_at counts group s ≡ 0) → IsGreatest counts group strength → strength ≡ 0
+greatest_none counts group strength none greatest = elim (cases_lt 0 strength) [
+  | inl above ↦ absurd (omega (arith, greatest.some above, none strength greatest.small))
+  | inr nothing ↦ omega arith
+]
+
+pub readings_are : (given : ℕ → ℕ) (entry : Option Node) (brief : Brief) (counts : Counts) (readings : Readings) → ((key : ℕ) → given key < 16) → brief ≡ brief_by (part_at entry) →
+    ((group : Group) (s : ℕ) → s < 16 → count_at counts group s ≡ count_by (brings given group s) (links_at entry)) → ReadsBy brief counts readings → readings ≡ readings_at given entry
+readings_are given None brief counts readings small here counted by =
+    let power : by.power ≡ 0 = greatest_none counts Back by.power (counted Back) by.greatest in
+    let side : readings.side ≡ 0 = greatest_none counts Side readings.side (counted Side) by.side in
+    let back : readings.back ≡ 0 = by.back ∙ ap (λ (b : Brief). back_by b.back by.power) here ∙ power in
+    λ i. record { back = back i; side = side i }
+readings_are given (Some node) brief counts readings small here counted by =
     let power = greatest_is given Back node.links counts by.power small (counted Back) by.greatest in
     let side = greatest_is given Side node.links counts readings.side small (counted Side) by.side in
-    let back : readings.back ≡ back_of node.kind (reading given Back node.links) = by.back ∙ ap (back_of node.kind) power in
+    let back : readings.back ≡ back_of node.kind (reading given Back node.links) = by.back ∙ ap (λ (b : Brief). back_by b.back by.power) here ∙ rule_is node.kind by.power ∙ ap (back_of node.kind) power in
     λ i. record { back = back i; side = side i }
 
-pub read_by : (part : Option Part) (counts : Counts) (power side : ℕ) (readings : Readings) → IsGreatest counts Back power → IsGreatest counts Side side → readings ≡ part_readings part power side → ReadBy part counts readings
-read_by None counts power side readings greatest_power greatest_side is = is
-read_by (Some part) counts power side readings greatest_power greatest_side is = record {
-  power = power;
-  greatest = greatest_power;
-  back = ap (λ (r : Readings). r.back) is;
-  side = subst (IsGreatest counts Side) (sym (ap (λ (r : Readings). r.side) is)) greatest_side;
-}
-
-module _ (g : Nodes) (parts : List (Option Part)) (outs : List ℕ) (counts : List Counts) (rows : List (List OutLink)) (wired : IsWired g parts outs counts rows) where
+module _ (g : Nodes) (parts : List (Option Part)) (briefs : List Brief) (outs : List ℕ) (counts : List Counts) (rows : List (List OutLink)) (wired : IsWired g parts briefs outs counts rows) where
   -- the links that go out of a key are counted
   pub enough : (from key : ℕ) (group : Group) (strength old : ℕ) → strength < 16 → old ≡ given outs from → hits (is_strength old group strength) key (row rows from) ≤ tally counts key group strength
   enough from key group strength old small here =
@@ -82,12 +103,14 @@ module _ (g : Nodes) (parts : List (Option Part)) (outs : List ℕ) (counts : Li
   length-set (y ∷ xs) (suc i) x = ap suc (length-set xs i x)
 
   pub wired_after : (from out old : ℕ) (after : List Counts) → from < length outs → out < 16 → old ≡ given outs from → length after ≡ length counts → Moved (row rows from) old out counts after →
-      IsWired g parts (set outs from out) after rows
+      IsWired g parts briefs (set outs from out) after rows
   wired_after from out old after inside small here whole moved =
       let long = length-set outs from out in
       record {
         kept = wired.kept;
+        brief = wired.brief;
         parts_whole = wired.parts_whole ∙ sym long;
+        briefs_whole = wired.briefs_whole ∙ sym long;
         counts_whole = whole ∙ wired.counts_whole ∙ sym long;
         rows_whole = wired.rows_whole ∙ sym long;
         small = given_small from out inside small;

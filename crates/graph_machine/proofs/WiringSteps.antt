@@ -1,8 +1,9 @@
 -- The links into a node, one after another, and what a graph begins with.
-use Rattle.std.proofs.Common.{◌≡◌, ℕ, zero, suc, ◌+◌, ◌<◌, ◌≤◌, ◌^◌, Bool, true, false, cond, List, [], ◌∷◌, ◌++◌, length, length-append, length-take, get_or, set, take, Option, Some, None, refl, sym, ap, ◌∙◌, subst, arith, inl, inr}
+use Rattle.std.proofs.Common.{◌≡◌, ℕ, zero, suc, ◌+◌, ◌<◌, ◌≤◌, ◌^◌, Bool, true, false, cond, List, [], ◌∷◌, ◌++◌, length, map, length-append, length-take, get_or, set, take, Option, Some, None, refl, sym, ap, ◌∙◌, subst, arith, inl, inr}
 use Rattle.std.specs.Prelude.{◌==◌, ◌&&◌, count_by, All, IfSome, IsSome, nat_lt}
 use Rattle.std.proofs.lemmas.Bool.{cases_Bool, cases_eq, cases_lt, eq-eqb, ne_eqb, lt-ltb, le-ltb, false≢true}
-use Rattle.std.proofs.lemmas.List.{get_or-set_same, get_or-set_other, get_or_past, take_all}
+use Rattle.std.proofs.lemmas.List.{get_or-set_same, get_or-set_other, get_or_past, take_all, length-map}
+use Rattle.std.proofs.Math.ListN.{get_or-map}
 use Rattle.std.proofs.lemmas.List.Sums.{sum_by-cons, sum_by-append, sum_by_more, count_by-le-length}
 use Rattle.std.proofs.lemmas.Option.{slice_get-get_or}
 use Rattle.circuit.specs.declared.Component.{Component}
@@ -24,7 +25,8 @@ use Rattle.graph_machine.specs.Counted.{is_strength, brings, row, hits, comes}
 use Rattle.circuit.proofs.Bounded.{outs_le, bounded_is_invariant}
 use Rattle.graph.proofs.BoundSteps.{graph_is_bounded}
 use Rattle.graph.proofs.ListedSteps.{test_of_keys}
-use Rattle.graph_machine.specs.Wired.{given, part_at, IsWired}
+use Rattle.graph_machine.specs.declared.net.Brief.{Brief}
+use Rattle.graph_machine.specs.Wired.{given, part_at, no_brief, brief_by, IsWired}
 use Rattle.graph_machine.specs.Wiring.{IsSmall, role_out, part_out, WiresLinks, entry_below, WiredBelow, WiredUp, IsKept}
 use Rattle.link_counts.proofs.TableSteps.{tally-push}
 use Rattle.graph_machine.proofs.CountSteps.{count_cons}
@@ -295,11 +297,13 @@ begin_small g sound key =
     let le = outs_le (graph_circuit g) (graph_is_bounded g sound) (record { time = 0; cells = (graph_circuit g).begin }) (bounded_is_invariant (graph_circuit g) test_of_keys (graph_is_bounded g sound)).begins key in
     omega (arith, part_out-at (node_at g key), le)
 
-pub wired_from : (g : Nodes) (parts : List (Option Part)) (outs : List ℕ) (counts : List Counts) (rows : List (List OutLink)) → IsKept g parts → length parts ≡ length outs → length counts ≡ length outs →
-    ((key : ℕ) → given outs key < 16) → length outs ≤ 2 ^ 32 → WiredUp g (length outs) (given outs) counts rows → IsWired g parts outs counts rows
-wired_from g parts outs counts rows kept parts_whole counts_whole small few_keys wired = record {
+pub wired_from : (g : Nodes) (parts : List (Option Part)) (briefs : List Brief) (outs : List ℕ) (counts : List Counts) (rows : List (List OutLink)) → IsKept g parts → briefs ≡ map brief_by parts →
+    length parts ≡ length outs → length counts ≡ length outs → ((key : ℕ) → given outs key < 16) → length outs ≤ 2 ^ 32 → WiredUp g (length outs) (given outs) counts rows → IsWired g parts briefs outs counts rows
+wired_from g parts briefs outs counts rows kept made parts_whole counts_whole small few_keys wired = record {
   kept = kept;
+  brief = λ key. ap (λ (l : List Brief). get_or l key no_brief) made ∙ get_or-map brief_by parts key None ∙ ap brief_by (kept key);
   parts_whole = parts_whole;
+  briefs_whole = ap (λ (l : List Brief). length l) made ∙ length-map parts brief_by ∙ parts_whole;
   counts_whole = counts_whole;
   rows_whole = wired.whole;
   small = small;

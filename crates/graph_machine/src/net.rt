@@ -6,15 +6,14 @@ ghost use Rattle.graph.specs.Graph.{node_at};
 ghost use Rattle.graph.specs.Sound.{IsSound};
 ghost use Rattle.graph.specs.declared.Group.{Group};
 ghost use Rattle.graph.specs.GraphCircuit.{graph_circuit, begin_at, readings_at, role_of, role_at, first_at};
-ghost use Rattle.graph.specs.Readings.{back_of};
 ghost use Rattle.graph_machine.specs.Outgoing.{links_from, outgoing};
 ghost use Rattle.link_counts.specs.Counted.{one_if, count_at, no_counts, tally};
 ghost use Rattle.graph_machine.specs.Counted.{is_strength, hits, row};
-ghost use Rattle.graph_machine.specs.Wired.{given, part_at, targets_in, part_readings, part_role, part_first};
+ghost use Rattle.graph_machine.specs.Wired.{given, part_at, targets_in, rule_of, back_by, brief_by};
 
 use crate::links::{OutLink, OutLinks, Rows};
 use crate::steps::Steps;
-use crate::wiring::{outs_of, parts_of, wire};
+use crate::wiring::{briefs_of, outs_of, parts_of, wire};
 use circuit::{Component, Readings};
 use graph::{Graph, Group, Kind, Pos};
 use link_counts::Tables;
@@ -33,13 +32,33 @@ pub struct Part {
     pub first: bool,
 }
 
+/// How the back reading of a node comes of the power that its Back links bring: it is that power,
+/// or a strength always, or a strength where the power is below 15.
+#[derive(Clone, Copy, PartialEq, Eq, Debug)]
+pub enum BackRule {
+    Power,
+    Direct(u8),
+    Far(u8),
+}
+
+/// What an event needs of a node, in few bytes: the component that it is, whether it is a diode
+/// that faces a diode, and its back reading.
+#[derive(Clone, Copy, PartialEq, Eq, Debug)]
+pub struct Brief {
+    pub role: Option<Component>,
+    pub first: bool,
+    pub back: BackRule,
+}
+
 /// The nodes of a graph, what each of them gives, and for each how many of its links bring each
 /// strength.
 #[derive(Drop)]
 pub struct Net {
     // The graph, for clauses alone.
     graph: Snapshot<Graph>,
+    // What no event needs.
     parts: Vec<Option<Part>>,
+    briefs: Vec<Brief>,
     outs: Vec<u8>,
     tables: Tables,
     links: OutLinks,
@@ -53,7 +72,7 @@ impl Model for Net {
 
     ghost view = { λ net. record { nodes = net.graph.value.nodes; outs = net.outs.items; targets = map targets_of net.links } };
 
-    ghost invariant = { λ net. IsWired net.graph.value.nodes net.parts.items net.outs.items net.tables net.links };
+    ghost invariant = { λ net. IsWired net.graph.value.nodes net.parts.items net.briefs.items net.outs.items net.tables net.links };
 }
 
 /// The component that a node is.
@@ -76,32 +95,64 @@ pub fn role_of(kind: Kind) -> Option<Component>
     }
 }
 
-fn role_of_part(part: Option<Part>) -> Option<Component>
-    ensures { result ≡ part_role part }
-{
-    role_of(part?.kind)
-}
-
-fn is_first_part(part: Option<Part>) -> bool
-    ensures { result ≡ part_first part }
-{
-    match part {
-        Some(part) => part.first,
-        None => false,
-    }
-}
-
-/// The back reading of a node whose Back links bring so much.
-fn back_of(kind: Kind, power: u8) -> u8
-    ensures { result ≡ back_of kind power }
+fn rule_of(kind: Kind) -> BackRule
+    ensures { result ≡ rule_of kind }
 {
     match kind {
         Kind::Comparator {
             direct: Some(direct),
             ..
-        } => direct,
-        Kind::Comparator { far: Some(far), .. } if power < 15 => far,
-        _ => power,
+        } => BackRule::Direct(direct),
+        Kind::Comparator {
+            direct: None,
+            far: Some(far),
+            ..
+        } => BackRule::Far(far),
+        Kind::Comparator {
+            direct: None,
+            far: None,
+            ..
+        }
+        | Kind::Lever
+        | Kind::Button { .. }
+        | Kind::Plate
+        | Kind::Weighted
+        | Kind::Torch
+        | Kind::Repeater { .. }
+        | Kind::Lamp
+        | Kind::Trapdoor
+        | Kind::Note
+        | Kind::Wire
+        | Kind::Constant => BackRule::Power,
+    }
+}
+
+/// What an event needs of a node.
+pub fn brief_of(part: Option<Part>) -> Brief
+    ensures { result ≡ brief_by part }
+{
+    match part {
+        Some(part) => Brief {
+            role: role_of(part.kind),
+            first: part.first,
+            back: rule_of(part.kind),
+        },
+        None => Brief {
+            role: None,
+            first: false,
+            back: BackRule::Power,
+        },
+    }
+}
+
+/// The back reading of a node whose Back links bring so much.
+fn back_by(rule: BackRule, power: u8) -> u8
+    ensures { result ≡ back_by rule power }
+{
+    match rule {
+        BackRule::Power => power,
+        BackRule::Direct(direct) => direct,
+        BackRule::Far(far) => { if power < 15 { far } else { power } }
     }
 }
 
@@ -153,19 +204,6 @@ fn spread<L: Ledger>(
     count
 }
 
-/// What a node reads, by the greatest strengths that its links bring.
-fn readings_by(part: Option<Part>, power: u8, side: u8) -> Readings
-    ensures { result ≡ part_readings part power side }
-{
-    match part {
-        Some(part) => Readings {
-            back: back_of(part.kind, power),
-            side,
-        },
-        None => Readings { back: 0, side: 0 },
-    }
-}
-
 impl Net {
     ghost use Rattle.graph_machine.specs.Wired.{AreTargets};
 
@@ -178,6 +216,7 @@ impl Net {
         ensures outs { IfOk result (λ net. (key : ℕ) → given net.outs key ≡ outs (graph_circuit graph.now.nodes) (record { time = 0; cells = λ other. begin_at (node_at graph.now.nodes other) }) key) }
     {
         let parts = parts_of(alloc, graph, count)?;
+        let briefs = briefs_of(alloc, &parts)?;
         let outs = outs_of(alloc, &parts)?;
         let mut tables = Tables::new(alloc, count)?;
         let mut rows = Rows::new(alloc, count)?;
@@ -186,6 +225,7 @@ impl Net {
         Ok(Net {
             graph: Snapshot::of(graph),
             parts,
+            briefs,
             outs,
             tables,
             links,
@@ -212,14 +252,17 @@ impl Net {
     pub fn role(&self, key: usize) -> Option<Component>
         ensures { result ≡ role_at (node_at self.now.nodes key) }
     {
-        role_of_part(self.part(key))
+        self.briefs.get(key)?.role
     }
 
     /// Whether the node under the key is a diode that faces a diode.
     pub fn is_first(&self, key: usize) -> bool
         ensures { result ≡ first_at (node_at self.now.nodes key) }
     {
-        is_first_part(self.part(key))
+        match self.briefs.get(key) {
+            Some(brief) => brief.first,
+            None => false,
+        }
     }
 
     /// What the node under the key reads.
@@ -229,7 +272,10 @@ impl Net {
     {
         let power = self.tables.greatest(key, Group::Back);
         let side = self.tables.greatest(key, Group::Side);
-        readings_by(self.parts[key], power, side)
+        Readings {
+            back: back_by(self.briefs[key].back, power),
+            side,
+        }
     }
 
     /// What the key gives.

@@ -1,6 +1,6 @@
 //! What the outputs show, kept right where a node changes.
 
-ghost use Rattle.std.specs.Prelude.{◌≡◌, ◌<◌, ℕ, IfOk, length, map, slice_index};
+ghost use Rattle.std.specs.Prelude.{◌≡◌, ◌<◌, ◌≤◌, ◌^◌, ℕ, IfOk, length, map, slice_index};
 ghost use Rattle.graph.specs.GraphCircuit.{graph_circuit};
 ghost use Rattle.graph_machine.specs.Screens.{face, AreOnce, ArePlaced, AreFaced, Refaced, screen_of};
 
@@ -17,7 +17,7 @@ pub struct Screen {
     // The keys of the outputs, in order.
     keys: Vec<u32>,
     // For each key the index of its output, if it is one.
-    places: Vec<usize>,
+    places: Vec<u32>,
     shown: Vec<u8>,
 }
 
@@ -57,19 +57,20 @@ fn faces(alloc: Global, net: &Net, cells: &Cells, keys: &[u32]) -> Result<Vec<u8
 }
 
 // Puts the index of each output to its key.
-fn put_places(keys: &[u32], places: &mut [usize])
+fn put_places(keys: &[u32], places: &mut [u32])
+    requires few { length keys.now ≤ 2 ^ 32 }
     requires once { AreOnce keys.now }
     requires inside { (i : ℕ) → i < length keys.now → slice_index keys.now i < length places.old }
     ensures placed { ArePlaced keys.now places.new }
     ensures whole { length places.new ≡ length places.old }
 {
     for (index, key) in keys.iter().enumerate() {
-        places[*key as usize] = index;
+        places[*key as usize] = index as u32;
     }
 }
 
 // The output of a key, if it is one, shows what it must.
-fn show(net: &Net, cells: &Cells, keys: &[u32], places: &[usize], shown: &mut Vec<u8>, key: usize)
+fn show(net: &Net, cells: &Cells, keys: &[u32], places: &[u32], shown: &mut Vec<u8>, key: usize)
     requires key { key < length places.now }
     requires count { length places.now ≡ length net.now.outs }
     requires placed { ArePlaced keys.now places.now }
@@ -77,7 +78,7 @@ fn show(net: &Net, cells: &Cells, keys: &[u32], places: &[usize], shown: &mut Ve
     ensures refaced { Refaced net.now cells.now.cells cells.now.cells (screen_of keys.now places.now shown.old.items) (screen_of keys.now places.now shown.new.items) (λ k. k ≡ key) }
     ensures whole { length shown.new.items ≡ length keys.now }
 {
-    let place = places[key];
+    let place = places[key] as usize;
     if place < keys.len() {
         shown[place] = face(net, cells, keys[place] as usize);
     }
@@ -91,7 +92,10 @@ impl Screen {
         ensures keys { IfOk result (λ screen. screen.keys ≡ (graph_circuit net.now.nodes).shown) }
         ensures faced { IfOk result (λ screen. AreFaced net.now cells.now.cells screen) }
     {
-        let mut places = vec![in alloc; usize::MAX; net.len()]?;
+        if keys.len() > u32::MAX as usize {
+            return Err(NoMemory);
+        }
+        let mut places = vec![in alloc; u32::MAX; net.len()]?;
         put_places(&keys, &mut places);
         let shown = faces(alloc, net, cells, &keys)?;
         Ok(Screen {

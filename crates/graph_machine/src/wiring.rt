@@ -1,6 +1,6 @@
 //! How a graph is laid out for a machine.
 
-ghost use Rattle.std.specs.Prelude.{◌≡◌, ◌+◌, ◌-◌, ◌<◌, ◌≤◌, ◌^◌, ◌==◌, max, ℕ, [], All, None, length, count_by, IfOk, IfSome, OnOk, option_map, option_copied, slice_index_or};
+ghost use Rattle.std.specs.Prelude.{◌≡◌, ◌+◌, ◌-◌, ◌<◌, ◌≤◌, ◌^◌, ◌==◌, max, ℕ, [], All, None, length, map, count_by, IfOk, IfSome, OnOk, option_map, option_copied, slice_index_or};
 ghost use Rattle.circuit.specs.Component.{top};
 ghost use Rattle.graph.specs.declared.Group.{Group};
 ghost use Rattle.graph.specs.declared.Link.{Link};
@@ -12,11 +12,11 @@ ghost use Rattle.graph_machine.specs.Counted.{row};
 ghost use Rattle.graph.specs.GraphCircuit.{begin_of, begin_at};
 ghost use Rattle.cell_queue.specs.Held.{cell_of};
 ghost use Rattle.graph_machine.specs.Outgoing.{links_at};
-ghost use Rattle.graph_machine.specs.Wired.{given, part_at};
+ghost use Rattle.graph_machine.specs.Wired.{given, part_at, brief_by};
 ghost use Rattle.graph_machine.specs.Wiring.{IsSmall, role_out, part_out, WiresLinks, IsKept, WiredUp};
 
 use crate::links::{MOST_LINKS, OutLink, Rows};
-use crate::net::{Part, role_of};
+use crate::net::{Brief, Part, brief_of, role_of};
 use cell_queue::NOTHING;
 use circuit::{Cell, Component};
 use graph::{Graph, Link, Node, NodeKey};
@@ -83,6 +83,13 @@ pub fn parts_of(alloc: Global, graph: &Graph, count: usize) -> Result<Vec<Option
         parts.push(part_under(graph, key))?;
     }
     Ok(parts)
+}
+
+/// What an event needs of each key.
+pub fn briefs_of(alloc: Global, parts: &[Option<Part>]) -> Result<Vec<Brief>, NoMemory>
+    ensures { IfOk result (λ briefs. briefs.items ≡ map brief_by parts.now) }
+{
+    Ok(parts.iter().map(|part| brief_of(*part)).collect(alloc)?)
 }
 
 fn role_out(role: Option<Component>, state: u8) -> u8

@@ -7,5 +7,5 @@ put_places-requires-clause-once c = shown_once c.args.net.now.nodes c.deref.resu
 
 pub put_places-requires-clause-inside : goal.put_places-requires-clause-inside
 put_places-requires-clause-inside c = λ i inside.
-    let here = shown_inside c.args.net.now.nodes c.deref.result.now (c.deref.ensures.value ∙ c.requires) (length c.args.net.now.outs) c.len.ensures.past i inside in
-    omega (arith, here, c.deref_mut.ensures.len, c.in_ok-places.ensures.len, c.len.ensures.len)
+    let here = shown_inside c.args.net.now.nodes c.deref.result.now (c.deref.ensures.value ∙ c.requires) (length c.args.net.now.outs) c.len-2.ensures.past i inside in
+    omega (arith, here, c.deref_mut.ensures.len, c.in_ok-places.ensures.len, c.len-2.ensures.len)
