@@ -22,3 +22,5 @@ mod Waves
 mod JoinedCells
 mod MetCells
 mod SourceCells
+mod Far
+mod Gathered

@@ -1,15 +1,15 @@
 -- The wires and sources of one cell more, and the rows of one wire more.
-use Rattle.std.proofs.Common.{◌≡◌, ℕ, zero, suc, ◌+◌, ◌<◌, ◌≤◌, Bool, List, [], ◌∷◌, ◌++◌, length, get_or, set, sym, ◌∙◌, ap, subst, arith, inl, inr, add-one, length-append, All}
+use Rattle.std.proofs.Common.{◌≡◌, ℕ, zero, suc, ◌+◌, ◌<◌, ◌≤◌, Bool, true, false, List, [], ◌∷◌, ◌++◌, length, get_or, set, sym, ◌∙◌, ap, subst, arith, inl, inr, add-one, length-append, All}
 use Rattle.std.specs.Prelude.{filter, replicate}
 use Rattle.std.specs.List.{range_with_len}
-use Rattle.std.proofs.lemmas.Bool.{cases_eq}
+use Rattle.std.proofs.lemmas.Bool.{cases_eq, false≢true}
 use Rattle.std.proofs.lemmas.List.{get_or-set_same, get_or-set_other}
 use Rattle.std.proofs.lemmas.List.Elements.{filter-append}
 use Rattle.std.proofs.Math.ListN.{get_or-append}
 use Rattle.std.proofs.Math.Seq.{get_or-append_seam}
 use Rattle.build.specs.Plan.{Plan}
 use Rattle.cell_numbers.proofs.Rising.{kept-below}
-use Rattle.input_search.specs.Rows.{row_at}
+use Rattle.input_search.specs.Rows.{row_at, is_met}
 use Rattle.input_search.specs.Wiring.{fed_row, read_row, AreRows}
 
 range_more : (a n : ℕ) → range_with_len a (suc n) ≡ range_with_len a n ++ (a + n) ∷ []
@@ -79,3 +79,8 @@ pub none_found : (n k row : ℕ) (A : Type 0) → get_or (replicate n 0) k 0 ≡
 none_found zero k row A h = absurd (omega arith)
 none_found (suc n) zero row A h = absurd (omega arith)
 none_found (suc n) (suc k) row A h = none_found n k row A h
+
+pub none_far : (n k : ℕ) (A : Type 0) → is_met (replicate n false) k ≡ true → A
+none_far zero k A h = absurd (false≢true h)
+none_far (suc n) zero A h = absurd (false≢true h)
+none_far (suc n) (suc k) A h = none_far n k A h

@@ -1,5 +1,5 @@
 -- The wires of a build by numbers: what feeds each, and what each reads without dust.
-use Rattle.std.specs.Prelude.{◌≡◌, ℕ, ◌+◌, ◌<◌, Bool, true, false, List, length, map, filter, get_or}
+use Rattle.std.specs.Prelude.{◌≡◌, ℕ, ◌+◌, ◌<◌, Bool, true, false, List, [], length, map, filter, get_or}
 use Rattle.std.specs.List.{range_with_len}
 use Rattle.std.specs.Option.{option_map_or}
 use Rattle.circuit.specs.declared.Pos.{Pos}
@@ -11,7 +11,7 @@ use Rattle.wire_shape.specs.Feeders.{feeders}
 use Rattle.wiring.specs.Reads.{is_source}
 use Rattle.input_search.specs.declared.wires.Wiring.{Wiring}
 use Rattle.input_search.specs.declared.search.Search.{Search}
-use Rattle.input_search.specs.Links.{From, among, direct_places, wires_in, links_below}
+use Rattle.input_search.specs.Links.{From, among, direct_places, wires_in, links_below, wire_links}
 use Rattle.input_search.specs.CellLists.{has_cell, cells_of}
 use Rattle.input_search.specs.Rows.{row_at, is_met, has_met, AreBelow}
 
@@ -64,15 +64,21 @@ pub record AreRows (b : Plan) (feeders reads : List (List ℕ)) (number row : �
   pub fed : row_at feeders row ≡ fed_row b number
   pub read : row_at reads row ≡ read_row b number
 
+-- no source is within 15 steps of the wire of a number
+abbrev pub IsFar : Plan → ℕ → Type 0
+IsFar b number = wire_links b (wire_place b (wire_cells b) number) ≡ []
+
 -- the wires of the build, with the rows of those that a search came to
 pub record IsWiring (b : Plan) (w : Wiring) : Type 0 where
   pub wires : w.wires.items ≡ wire_cells b
   pub cells : w.cells ≡ wire_cells b
   pub sources : w.sources ≡ source_cells b
   pub size : length w.slots.items ≡ length (wire_cells b)
+  pub all : length w.far.items ≡ length (wire_cells b)
   pub feeders : length w.feeders ≡ w.found
   pub reads : length w.reads ≡ w.found
   pub found : (number row : ℕ) → get_or w.slots.items number 0 ≡ row + 1 → AreRows b w.feeders w.reads number row
+  pub far : (number : ℕ) → is_met w.far.items number ≡ true → IsFar b number
 
 -- the cells that were met are those from whose places there is a link
 pub record AreLinked (b : Plan) (links : List From) (met : List Bool) : Type 0 where
@@ -88,14 +94,9 @@ pub record IsAt (b : Plan) (w : Pos) (cells : List ℕ) (n : ℕ) (wires : List 
   pub read : (i : ℕ) → i < length cells → is_met met i ≡ true → has_cell wires i ≡ false → (s : Pos) → Among (direct_places b (wire_place b cells i)) s → among (map (λ l. l.place) links) s ≡ true
   pub fed : (i j : ℕ) → i < length cells → j < length cells → is_met met i ≡ true → has_cell wires i ≡ false → Among (feeders b (wire_place b cells i)) (wire_place b cells j) → is_met met j ≡ true
 
--- a search from w has found the links from what is nearer than n steps
-pub record IsSearch (b : Plan) (w : Pos) (n : ℕ) (search : Search) : Type 0 where
-  pub links : search.links.items ≡ links_below b w n
+-- a search has found the links of its first wire from what is nearer than n steps
+pub record IsSearch (b : Plan) (n : ℕ) (search : Search) : Type 0 where
+  pub start : search.start < length (wire_cells b)
+  pub links : search.links.items ≡ links_below b (wire_place b (wire_cells b) search.start) n
   pub linked : AreLinked b search.links.items search.linked
-  pub at : IsAt b w (wire_cells b) n search.wires.items search.met search.links.items
-
--- a search can go on
-pub record IsReady (b : Plan) (search : Search) : Type 0 where
-  pub below : AreBelow (length (wire_cells b)) search.wires.items
-  pub size : length search.met ≡ length (wire_cells b)
-  pub linked : AreLinked b search.links.items search.linked
+  pub at : IsAt b (wire_place b (wire_cells b) search.start) (wire_cells b) n search.wires.items search.met search.links.items

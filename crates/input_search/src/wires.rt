@@ -1,14 +1,15 @@
 //! The wires of a build, with what feeds each and what each reads without dust.
 
-ghost use Rattle.std.specs.Prelude.{◌≡◌, ℕ, ◌+◌, ◌<◌, ◌≤◌, [], ◌∷◌, ◌++◌, All, filter, map, IfOk, OnOk, IsTrue, length, slice_index, slice_set};
+ghost use Rattle.std.specs.Prelude.{◌≡◌, ℕ, ◌+◌, ◌<◌, ◌≤◌, ◌||◌, true, [], ◌∷◌, ◌++◌, All, filter, map, IfOk, OnOk, IsTrue, length, slice_index, slice_set};
 ghost use Rattle.std.specs.Option.{option_map_or};
 ghost use Rattle.cell_numbers.specs.Numbers.{number_in};
-ghost use Rattle.build.specs.Plan.{volume, place_of, block_at};
+ghost use Rattle.build.specs.Plan.{Plan, volume, place_of, block_at};
 ghost use Rattle.wire_shape.specs.Shape.{wire_at, is_wire};
 ghost use Rattle.wiring.specs.Reads.{is_source};
 ghost use Rattle.input_search.specs.CellLists.{has_cell, cells_of};
 ghost use Rattle.input_search.specs.Links.{direct_places};
-ghost use Rattle.input_search.specs.Wiring.{wire_cells, wire_place, wire_number, feeder_numbers, read_cells, AreRows, IsWiring};
+ghost use Rattle.input_search.specs.Rows.{is_met, AreBelow};
+ghost use Rattle.input_search.specs.Wiring.{wire_cells, wire_place, wire_number, feeder_numbers, read_cells, AreRows, IsFar, IsWiring};
 
 use block_table::Block;
 use build::Build;
@@ -32,6 +33,8 @@ pub(crate) struct Wiring {
     // Of each wire one more than the index of its rows, and 0 where they weren't found yet.
     slots: Vec<u32>,
     found: u32,
+    // Whether it is known of each wire that no source is within 15 steps.
+    far: Vec<bool>,
     pub(crate) feeders: Rows,
     pub(crate) reads: Rows,
     // Filled anew for each wire.
@@ -52,12 +55,15 @@ impl Wiring {
         }
         let mut slots = Vec::new(alloc);
         slots.resize(wires.len(), 0)?;
+        let mut far = Vec::new(alloc);
+        far.resize(wires.len(), false)?;
         Ok(Wiring {
             wires,
             cells,
             sources,
             slots,
             found: 0,
+            far,
             feeders: Rows::new(alloc),
             reads: Rows::new(alloc),
             row: Vec::new(alloc),
@@ -78,6 +84,22 @@ impl Wiring {
         } else {
             Ok(slot - 1)
         }
+    }
+
+    /// Whether it is known of a wire that no source is within 15 steps.
+    pub(crate) fn is_far(&self, number: u32) -> bool
+        requires { number < length self.now.far.items }
+        ensures { result ≡ is_met self.now.far.items number }
+    {
+        self.far[number as usize]
+    }
+
+    /// Notes that no source is within 15 steps of these wires.
+    pub(crate) fn note_far(&mut self, wires: &[u32])
+        requires { AreBelow (length self.old.far.items) wires.now }
+        ensures { (b : Plan) → IsWiring b self.old → ((number : ℕ) → has_cell wires.now number ≡ true → IsFar b number) → IsWiring b self.new }
+    {
+        put_all(&mut self.far, wires);
     }
 
     // Finds the rows of a wire.
@@ -119,6 +141,23 @@ fn put(slots: &mut Vec<u32>, index: usize, slot: u32)
     ensures { slots.new.items ≡ slice_set slots.old.items index slot }
 {
     slots[index] = slot;
+}
+
+fn put_one(far: &mut Vec<bool>, index: usize)
+    requires { index < length far.old.items }
+    ensures { far.new.items ≡ slice_set far.old.items index true }
+{
+    far[index] = true;
+}
+
+fn put_all(far: &mut Vec<bool>, wires: &[u32])
+    requires { AreBelow (length far.old.items) wires.now }
+    ensures size { length far.new.items ≡ length far.old.items }
+    ensures far { (number : ℕ) → is_met far.new.items number ≡ (is_met far.old.items number || has_cell wires.now number) }
+{
+    for wire in wires {
+        put_one(far, *wire as usize);
+    }
 }
 
 // Whether a block can give power.

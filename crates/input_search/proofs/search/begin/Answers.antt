@@ -9,8 +9,8 @@ use Rattle.input_search.proofs.WireNumbers.{number-wire}
 use Rattle.input_search.proofs.Waves.{none_linked, no_links, at_start}
 use Rattle.input_search.proofs.search.begin.Goals as goal
 
-pub returns : goal.returns
-returns c =
+pub returns-clause-at : goal.returns-clause-at
+returns-clause-at c =
     let b : Plan = c.args.build.now in
     let first : ℕ = c.args.number in
     let w : Pos = wire_place b (wire_cells b) first in
@@ -20,6 +20,7 @@ returns c =
     let met : List Bool = c.gather_one.new.met in
     on_ok_weaker c.gather_one.result
     (λ gathers. record {
+      start = c.requires.number;
       links = c.clear.ensures.items ∙ sym (no_links b w);
       linked = none_linked b c.clear.new.self.items c.start-2.new.self c.clear.ensures.items unlinked;
       at = subst (IsAt b w (wire_cells b) 0 found met) (sym c.clear.ensures.items)

@@ -1,11 +1,13 @@
-use Rattle.std.proofs.Common.{◌≡◌, List, ℕ, ◌+◌, [], ◌++◌, Vec, Global, map, sym, subst, ap, ◌∙◌}
+use Rattle.std.proofs.Common.{◌≡◌, true, refl, List, ℕ, ◌+◌, [], ◌++◌, Vec, Global, map, sym, subst, ap, ◌∙◌}
 use Rattle.std.specs.List.{flat_map}
 use Rattle.circuit.specs.declared.Pos.{Pos}
 use Rattle.build.specs.Plan.{Plan}
 use Rattle.input_search.specs.CellLists.{places_of, AreCells}
 use Rattle.input_search.specs.Links.{From, at_weight, direct_places, with_distance}
 use Rattle.input_search.specs.Rows.{Gathers, GathersCells}
-use Rattle.input_search.specs.Wiring.{wire_cells, source_cells, wire_places, fed_row, read_row, IsAt}
+use Rattle.input_search.specs.Wiring.{wire_cells, source_cells, wire_place, wire_places, fed_row, read_row, IsAt}
+use Rattle.wire_shape.specs.Shape.{wire_at}
+use Rattle.input_search.proofs.WireNumbers.{number-wire}
 use Rattle.input_search.proofs.Waves.{rows-read, distance_found, links_on, same_distance, at_next}
 use Rattle.input_search.proofs.search.go_on.Goals as goal
 
@@ -22,11 +24,13 @@ push_links-requires c =
     c.in_ok-look_around.ensures.read) in
     subst (AreCells b) (sym c.deref-2.ensures.value)
     (distance_found b c.args.distance (flat_map (direct_places b) (wire_places b (wire_cells b) wires)) links links c.args.search.now.linked c.look_around.new.linked numbers found c.put_in_order.new.cells.items
-    (rows-read b wires) c.requires.ready.linked gathers c.put_in_order.ensures).0
+    (rows-read b wires) c.requires.at.linked gathers c.put_in_order.ensures).0
 
-pub returns-clause-next : goal.returns-clause-next
-returns-clause-next c = λ w is_wire here.
+pub returns-clause-at : goal.returns-clause-at
+returns-clause-at c =
     let b : Plan = c.args.build.now in
+    let w : Pos = wire_place b (wire_cells b) c.args.search.now.start in
+    let is_wire : wire_at b w ≡ true = number-wire b (wire_cells b) refl c.args.search.now.start c.requires.at.start in
     let n : ℕ = c.args.distance in
     let wires : List ℕ = c.args.search.now.wires.items in
     let links : List From = c.args.search.now.links.items in
@@ -44,10 +48,11 @@ returns-clause-next c = λ w is_wire here.
     let pushed : c.push_links.new.links.items ≡ c.args.search.now.links.items ++ map (at_weight n) (places_of b c.put_in_order.new.cells.items) =
     c.in_ok-push_links.ensures ∙ ap (λ (xs : List ℕ). c.args.search.now.links.items ++ map (at_weight n) (places_of b xs)) c.deref-2.ensures.value in
     let both = (distance_found b n (flat_map (direct_places b) (wire_places b (wire_cells b) wires)) links more c.args.search.now.linked c.look_around.new.linked numbers found c.put_in_order.new.cells.items
-    (rows-read b wires) here.linked gathers c.put_in_order.ensures).1 pushed in
+    (rows-read b wires) c.requires.at.linked gathers c.put_in_order.ensures).1 pushed in
     record {
-      links = links_on b w n links more here.links (both.0 ∙ same_distance b w is_wire n wires c.args.search.now.met links here.at);
+      start = c.requires.at.start;
+      links = links_on b w n links more c.requires.at.links (both.0 ∙ same_distance b w is_wire n wires c.args.search.now.met links c.requires.at.at);
       linked = both.1;
       at = subst (λ (v : Vec ℕ Global). IsAt b w (wire_cells b) (n + 1) v.items c.look_around.new.met c.push_links.new.links.items) (sym c.swap.ensures.x_after)
-          (at_next b w is_wire n wires c.args.search.now.met links here.at c.look_around.new.next.items c.look_around.new.met more fed both.0);
+          (at_next b w is_wire n wires c.args.search.now.met links c.requires.at.at c.look_around.new.next.items c.look_around.new.met more fed both.0);
     }
