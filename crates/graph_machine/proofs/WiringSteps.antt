@@ -158,12 +158,7 @@ part_out-at (Some node) = begin_out (role_of node.kind) node.state node.due node
 
 -- ---- the keys of a graph
 
-pub keys_above : (from : ℕ) (g : Nodes) (count : ℕ) → All (λ key. key < count) (keys_from from g) → (key : ℕ) → count ≤ from + key → node_at g key ≡ None
-keys_above from [] count all key past = refl
-keys_above from (None ∷ g) count all zero past = refl
-keys_above from (None ∷ g) count all (suc key) past = keys_above (suc from) g count all key (omega arith)
-keys_above from (Some node ∷ g) count all zero past = absurd (let here = all 0 from (omega arith) in omega arith)
-keys_above from (Some node ∷ g) count all (suc key) past = keys_above (suc from) g count (λ k d h. all (suc k) d (omega arith)) key (omega arith)
+
 
 -- ---- all nodes, one after another
 

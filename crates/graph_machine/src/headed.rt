@@ -8,9 +8,9 @@ ghost use Rattle.graph_machine.specs.Headed.{out_kind, output_at, part_place, gr
 
 use crate::net::Part;
 use crate::places::shown_by;
-use crate::wiring::{count_keys, part_under};
+use crate::wiring::part_under;
 use build::{OutKind, OutPlace};
-use graph::{Graph, Kind};
+use graph::{Graph, Kind, count_keys};
 use rp_text::NoMemory;
 use std::alloc::Global;
 

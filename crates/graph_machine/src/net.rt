@@ -15,7 +15,7 @@ use crate::links::{OutLink, OutLinks, Rows};
 use crate::steps::Steps;
 use crate::wiring::{briefs_of, outs_of, parts_of, wire};
 use circuit::{Component, Readings};
-use graph::{Graph, Group, Kind, Pos};
+use graph::{Graph, Group, Kind, Pos, role_of};
 use link_counts::Tables;
 use rp_text::NoMemory;
 use std::alloc::Global;
@@ -73,26 +73,6 @@ impl Model for Net {
     ghost view = { λ net. record { nodes = net.graph.value.nodes; outs = net.outs.items; targets = map targets_of net.links } };
 
     ghost invariant = { λ net. IsWired net.graph.value.nodes net.parts.items net.briefs.items net.outs.items net.tables net.links };
-}
-
-/// The component that a node is.
-pub fn role_of(kind: Kind) -> Option<Component>
-    ensures { result ≡ role_of kind }
-{
-    match kind {
-        Kind::Lever => Some(Component::Lever),
-        Kind::Button { delay } => Some(Component::Button { delay }),
-        Kind::Plate => Some(Component::Plate),
-        Kind::Weighted => Some(Component::Weighted),
-        Kind::Torch => Some(Component::Torch),
-        Kind::Repeater { delay } => Some(Component::Repeater { delay }),
-        Kind::Comparator { subtract, .. } => Some(Component::Comparator { subtract }),
-        Kind::Lamp => Some(Component::Lamp),
-        Kind::Trapdoor => Some(Component::Trapdoor),
-        Kind::Note => Some(Component::Note),
-        Kind::Wire => Some(Component::Wire),
-        Kind::Constant => None,
-    }
 }
 
 fn rule_of(kind: Kind) -> BackRule

@@ -4,8 +4,9 @@ ghost use Rattle.std.specs.Prelude.{◌≡◌};
 ghost use Rattle.graph.specs.Graph.{node_at};
 ghost use Rattle.graph_machine.specs.Shown.{node_state, part_state, state_by};
 
-use crate::net::{Net, Part, role_of};
+use crate::net::{Net, Part};
 use circuit::{Cell, Component};
+use graph::role_of;
 
 fn state_by(role: Option<Component>, state: u8, cell: Cell) -> u8
     ensures { result ≡ state_by role state cell }

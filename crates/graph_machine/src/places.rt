@@ -8,10 +8,10 @@ ghost use Rattle.graph.specs.GraphCircuit.{graph_circuit, is_output};
 ghost use Rattle.graph.specs.Sound.{IsSound};
 ghost use Rattle.graph_machine.specs.Places.{spot, is_clicked, PutsOutput, PutsClicked, AreClicked, role_takes, part_takes, TakesAt};
 
-use crate::net::{Net, Part, role_of};
+use crate::net::{Net, Part};
 use crate::wiring::part_under;
 use circuit::{Click, Component, Pos};
-use graph::{Graph, Kind};
+use graph::{Graph, Kind, role_of};
 use rp_text::NoMemory;
 use std::alloc::Global;
 use std::collections::BTreeMap;

@@ -1,6 +1,6 @@
 //! How a graph is laid out for a machine.
 
-ghost use Rattle.std.specs.Prelude.{◌≡◌, ◌+◌, ◌-◌, ◌<◌, ◌≤◌, ◌^◌, ◌==◌, max, ℕ, [], All, None, length, map, count_by, IfOk, IfSome, OnOk, option_map, option_copied, slice_index_or};
+ghost use Rattle.std.specs.Prelude.{◌≡◌, ◌+◌, ◌-◌, ◌<◌, ◌≤◌, ◌^◌, ◌==◌, ℕ, [], All, None, length, map, count_by, IfOk, IfSome, OnOk, option_map, option_copied, slice_index_or};
 ghost use Rattle.circuit.specs.Component.{top};
 ghost use Rattle.graph.specs.declared.Group.{Group};
 ghost use Rattle.graph.specs.declared.Link.{Link};
@@ -16,40 +16,13 @@ ghost use Rattle.graph_machine.specs.Wired.{given, part_at, brief_by};
 ghost use Rattle.graph_machine.specs.Wiring.{IsSmall, role_out, part_out, WiresLinks, IsKept, WiredUp};
 
 use crate::links::{MOST_LINKS, OutLink, Rows};
-use crate::net::{Brief, Part, brief_of, role_of};
+use crate::net::{Brief, Part, brief_of};
 use cell_queue::NOTHING;
 use circuit::{Cell, Component};
-use graph::{Graph, Link, Node, NodeKey};
+use graph::{Graph, Link, Node, NodeKey, role_of};
 use link_counts::{Counts, Tables};
 use rp_text::NoMemory;
 use std::alloc::Global;
-
-fn larger(one: usize, other: usize) -> usize
-    ensures { result ≡ max one other }
-{
-    if one < other { other } else { one }
-}
-
-/// One more than the last key, or 0 where there is none.
-fn count_of(keys: &[NodeKey]) -> usize
-    ensures above { All (λ key. key < result) keys.now }
-    ensures few { result ≤ 2 ^ 32 }
-{
-    let mut count = 0;
-    for key in keys {
-        count = larger(count, key.number() as usize + 1);
-    }
-    count
-}
-
-/// So many keys are enough for the nodes of the graph.
-pub fn count_keys(graph: &Graph) -> Result<usize, NoMemory>
-    ensures past { IfOk result (λ count. (key : ℕ) → count ≤ key → node_at graph.now.nodes key ≡ None) }
-    ensures few { IfOk result (λ count. count ≤ 2 ^ 32) }
-{
-    let keys = graph.keys()?;
-    Ok(count_of(&keys))
-}
 
 fn part_of(node: Option<&Node>) -> Option<Part>
     ensures { result ≡ part_at (option_map plain (option_copied node.entry)) }
