@@ -5,7 +5,7 @@ ghost use Rattle.circuit.specs.Circuit.{outs};
 ghost use Rattle.graph.specs.Graph.{node_at};
 ghost use Rattle.graph.specs.Sound.{IsSound};
 ghost use Rattle.graph.specs.declared.Group.{Group};
-ghost use Rattle.graph.specs.GraphCircuit.{graph_circuit, begin_at, readings_at, role_of, role_at, first_at};
+ghost use Rattle.graph.specs.GraphCircuit.{graph_circuit, begin_at, readings_at, role_at, first_at};
 ghost use Rattle.graph_machine.specs.Outgoing.{links_from, outgoing};
 ghost use Rattle.link_counts.specs.Counted.{one_if, count_at, no_counts, tally};
 ghost use Rattle.graph_machine.specs.Counted.{is_strength, hits, row};
