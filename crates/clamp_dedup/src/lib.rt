@@ -16,8 +16,6 @@ use weights::Weights;
 mod doubled;
 mod heavy;
 pub mod laws;
-#[cfg(test)]
-mod tests;
 mod weights;
 
 /// Drops each link that weighs 15 or more.

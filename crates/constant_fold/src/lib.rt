@@ -17,8 +17,6 @@ use waits::Waits;
 pub mod laws;
 mod looks;
 mod rests;
-#[cfg(test)]
-mod tests;
 mod turns;
 mod waits;
 

@@ -19,8 +19,6 @@ use rp_text::NoMemory;
 
 mod bounds;
 pub mod laws;
-#[cfg(test)]
-mod tests;
 
 /// Drops each link that weighs at least the bound of its source: the state of a Constant; for a
 /// comparator that subtracts 15 less what Constants bring to its side, or its own state where

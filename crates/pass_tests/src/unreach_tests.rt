@@ -1,13 +1,13 @@
-//! Graphs made by hand, and what is left of them.
+//! Links that Unreach drops.
 
-ghost use Rattle.std.specs.Prelude.{◌<◌, length};
-
-use super::*;
-use graph::{Kind, Link, Pos};
-use hand_graph::{Row, back, side, sound_graph};
+use crate::left::assert_left;
+use graph::{Kind, Pos};
+use hand_graph::{back, side};
+use rp_text::NoMemory;
 use std::alloc::Global;
 use std::process::Abort;
 use std::test::Fail;
+use unreach::Unreach;
 
 const SUBTRACTS: Kind = Kind::Comparator {
     subtract: true,
@@ -17,27 +17,6 @@ const SUBTRACTS: Kind = Kind::Comparator {
 
 fn at(x: i32) -> Pos {
     Pos { x, y: 0, z: 0 }
-}
-
-// The pass answers this on the graph of these nodes and links, and this is the text of what is left.
-fn assert_left<P: Pass>(
-    rt: &impl Abort,
-    alloc: Global,
-    pass: &mut P,
-    nodes: &[Row],
-    links: &[(u32, Link)],
-    took: bool,
-    want: &[u8],
-) -> Result<(), NoMemory>
-    requires { length nodes.now < 100 }
-{
-    let mut graph = sound_graph(alloc, nodes, links)?.expect(rt, "the graph is sound");
-    let answer = pass.run(&mut graph)?;
-    assert_eq!(rt; answer, took);
-    let mut text = Vec::new(alloc);
-    graph.push_text(&mut text)?;
-    assert_eq!(rt; text.as_slice(), want);
-    Ok(())
 }
 
 // The comparator of this state, with a Constant of 5 at its side, and links from it.

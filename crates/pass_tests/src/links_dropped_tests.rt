@@ -1,12 +1,11 @@
-//! Graphs made by hand, and what is left of them.
+//! Links that Clamp and Dedup drop.
 
-ghost use Rattle.std.specs.Prelude.{◌<◌, length};
-
-use super::*;
+use crate::left::assert_left;
+use clamp_dedup::{Clamp, Dedup};
 use graph::{Kind, Link, Pos};
-use hand_graph::{Row, back, side, sound_graph};
-use pass_frame::Then;
-use rp_text::push_u64;
+use hand_graph::{back, side};
+use pass_frame::{Pass, Then};
+use rp_text::{NoMemory, push_u64};
 use std::alloc::Global;
 use std::process::Abort;
 use std::test::Fail;
@@ -19,27 +18,6 @@ const COMPARATOR: Kind = Kind::Comparator {
 
 fn at(x: i32, y: i32, z: i32) -> Pos {
     Pos { x, y, z }
-}
-
-// The pass answers this on the graph of these nodes and links, and this is the text of what is left.
-fn assert_left<P: Pass>(
-    rt: &impl Abort,
-    alloc: Global,
-    pass: &mut P,
-    nodes: &[Row],
-    links: &[(u32, Link)],
-    took: bool,
-    want: &[u8],
-) -> Result<(), NoMemory>
-    requires { length nodes.now < 100 }
-{
-    let mut graph = sound_graph(alloc, nodes, links)?.expect(rt, "the graph is sound");
-    let answer = pass.run(&mut graph)?;
-    assert_eq!(rt; answer, took);
-    let mut text = Vec::new(alloc);
-    graph.push_text(&mut text)?;
-    assert_eq!(rt; text.as_slice(), want);
-    Ok(())
 }
 
 #[test]

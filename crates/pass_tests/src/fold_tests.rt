@@ -1,12 +1,9 @@
-//! Graphs made by hand, and what is left of them.
+//! Nodes that are folded.
 
-ghost use Rattle.std.specs.Prelude.{◌<◌, length};
-
-use super::*;
-use graph::{Kind, Link, Pos};
-use hand_graph::{Row, back, sound_graph};
-use std::alloc::Global;
-use std::process::Abort;
+use crate::left::assert_left;
+use constant_fold::Fold;
+use graph::{Kind, Pos};
+use hand_graph::back;
 use std::test::Fail;
 
 // A comparator that reads the strength of a block.
@@ -20,27 +17,6 @@ fn reads(strength: u8) -> Kind {
 
 fn at(x: i32) -> Pos {
     Pos { x, y: 0, z: 0 }
-}
-
-// The pass answers this on the graph of these nodes and links, and this is the text of what is left.
-fn assert_left<P: Pass>(
-    rt: &impl Abort,
-    alloc: Global,
-    pass: &mut P,
-    nodes: &[Row],
-    links: &[(u32, Link)],
-    took: bool,
-    want: &[u8],
-) -> Result<(), NoMemory>
-    requires { length nodes.now < 100 }
-{
-    let mut graph = sound_graph(alloc, nodes, links)?.expect(rt, "the graph is sound");
-    let answer = pass.run(&mut graph)?;
-    assert_eq!(rt; answer, took);
-    let mut text = Vec::new(alloc);
-    graph.push_text(&mut text)?;
-    assert_eq!(rt; text.as_slice(), want);
-    Ok(())
 }
 
 #[test]
