@@ -25,10 +25,11 @@ mod waits;
 /// Makes a Constant of each torch, repeater and comparator that reads Constants alone, has no
 /// pending tick, and is at its goal or locked.
 ///
-/// It goes over the nodes once. Where nothing is folded that is all, and else it goes once more over
-/// those before the last that was folded. Where nothing can be folded then it is done. Else a node that reads another one waits until that
-/// is folded: so each link is looked at once more, and where all sources of its target are Constants
-/// twice, and a list is taken for each key up to the greatest.
+/// It goes over the nodes once. Where nothing is folded that is all, and else it goes once more
+/// over those before the last that was folded. Where nothing can be folded then it is done. Else
+/// a node that reads another one waits until that is folded: so each link is looked at once more,
+/// and where all sources of its target are Constants twice, and a list is taken for each key up
+/// to the greatest.
 #[derive(Drop)]
 pub struct Fold;
 
