@@ -1,12 +1,12 @@
 -- What Fold has still to look at, and what waits for a source to be folded.
-use Rattle.std.specs.Prelude.{◌≡◌, ◌≢◌, ℕ, zero, suc, ◌<◌, true, false, List, [], ◌∷◌, ◌++◌, Some, Vec, length, get_or, slice_get}
+use Rattle.std.specs.Prelude.{◌≡◌, ◌≢◌, ℕ, zero, suc, ◌<◌, ◌≤◌, true, false, List, [], ◌∷◌, ◌++◌, Some, None, Vec, length, get_or, slice_get}
 use Rattle.std.specs.declared.alloc.Global.{Global}
 use Rattle.circuit.specs.Circuit.{Each, Among}
 use Rattle.graph.specs.declared.Link.{Link}
 use Rattle.graph.specs.Graph.{Node, Nodes, node_at, Lives}
 use Rattle.graph.specs.LinkAt.{link_at}
 use Rattle.constant_fold.specs.declared.waits.Wait.{Wait}
-use Rattle.constant_fold.specs.Foldable.{is_constant, IsStuck}
+use Rattle.constant_fold.specs.Foldable.{is_constant, fold_value_at, IsStuck}
 
 -- what waits for the source of this number
 abbrev pub waiting_for : List (Vec Wait Global) → ℕ → List Wait
@@ -66,6 +66,10 @@ pub record AllTended (g : Nodes) (work : List Wait) (lists : List (Vec Wait Glob
 -- each node's key is among these
 abbrev pub AreListed : Nodes → List ℕ → Type 0
 AreListed g keys = (k : ℕ) → Lives g k → (i : ℕ) × (i < length keys) × (get_or keys i 0 ≡ k)
+
+-- of the nodes from one index on, up to another one, none can be folded now
+abbrev pub NoneFold : Nodes → List ℕ → ℕ → ℕ → Type 0
+NoneFold g keys from end = (i : ℕ) → from ≤ i → i < end → fold_value_at g (node_at g (get_or keys i 0)) ≡ None
 
 -- All these nodes are to be looked at from their first links on, and nothing waits.
 pub record IsFresh (keys : List ℕ) (work : List Wait) (lists : List (Vec Wait Global)) : Type 0 where
