@@ -159,3 +159,34 @@ fn many_blocks(rt: HostRuntime) -> Result<(), Fail> {
     assert_comes_back(&rt, rt.alloc(), &build)?;
     Ok(())
 }
+
+// Each block stands three times, and keeps the number that its first cell got.
+#[test]
+fn blocks_that_stand_again(rt: HostRuntime) -> Result<(), Fail> {
+    let mut build = Build::new(rt.alloc(), 4, 3, 1, 0)?;
+    for y in 0..3 {
+        put(&rt, &mut build, pos(0, y, 0), "stone");
+        put(
+            &rt,
+            &mut build,
+            pos(1, y, 0),
+            "repeater[facing=west,delay=3]",
+        );
+        put(
+            &rt,
+            &mut build,
+            pos(3, y, 0),
+            "repeater[facing=east,delay=3]",
+        );
+    }
+    let bytes = write_build(rt.alloc(), &build)?;
+    let cells =
+        b"\x07\x00\x09BlockData\x00\x00\x00\x0c\x00\x01\x02\x03\x00\x01\x02\x03\x00\x01\x02\x03";
+    assert!(rt;
+        bytes
+            .windows(cells.len())
+            .any(|part| part == cells.as_slice())
+    );
+    assert_comes_back(&rt, rt.alloc(), &build)?;
+    Ok(())
+}

@@ -4,6 +4,7 @@ use Rattle.std.specs.Prelude.{nat_lt, not, ◌⊎◌, filter, position, Vec}
 use Rattle.std.specs.declared.alloc.Global.{Global}
 use Rattle.std.specs.List.{list_any, position_or_len, flat_map}
 use Rattle.std.specs.Str.{bytes_eq}
+use Rattle.std.proofs.Math.ListN.{get_or}
 use Rattle.std.proofs.lemmas.Slice.Eq.{bytes_eq-Decides}
 use Rattle.std.proofs.lemmas.List.Folds.{list_any-append}
 use Rattle.std.proofs.lemmas.Bool.{cases_Bool, or_parts, false≢true, ltb-true}
@@ -12,9 +13,9 @@ use Rattle.std.proofs.lemmas.List.{append-nil, map-append}
 use Rattle.std.proofs.lemmas.Grind.{flat_map-append}
 use Rattle.std.proofs.lemmas.Map.Views.{any-filter_same}
 use Rattle.schem_write.specs.Varint.{varint}
-use Rattle.block_table.specs.declared.Block.TheVariants.{Air}
 use Rattle.block_table.specs.WrittenText.{state_text}
-use Rattle.schem_write.specs.PaletteTexts.{first_ones, number_in, with_text, IsNumberOf, IsAirNumber}
+use Rattle.packed_block.specs.Packed.{unpacked}
+use Rattle.schem_write.specs.PaletteTexts.{first_ones, number_in, with_text, IsNumberOf, IsNumber, AreNumbers}
 use Rattle.schem_write.specs.Code.{texts_of}
 
 pub text_itself : (t : List ℕ) → bytes_eq t t ≡ true
@@ -68,9 +69,13 @@ still_number t u number texts h = elim (cases_Bool (has u texts)) [
   | inr e ↦ rw e (h.0 ∙ sym (number-append t u texts h.1), list_any-append (bytes_eq t) texts (u ∷ []) ∙ rw h.1 refl)
 ]
 
-pub still_air : (texts : List (List ℕ)) (u : List ℕ) (air : Option ℕ) → IsAirNumber texts air → IsAirNumber (with_text texts u) air
-still_air texts u None h = tt
-still_air texts u (Some number) h = still_number (state_text Air) u number texts h
+still_known : (texts : List (List ℕ)) (u : List ℕ) (code : ℕ) (known : Option ℕ) → IsNumber texts code known → IsNumber (with_text texts u) code known
+still_known texts u code None h = tt
+still_known texts u code (Some number) h = still_number (state_text (unpacked code)) u number texts h
+
+-- what is known stays right with a text more
+pub still_numbers : (texts : List (List ℕ)) (u : List ℕ) (numbers : List (Option ℕ)) → AreNumbers texts numbers → AreNumbers (with_text texts u) numbers
+still_numbers texts u numbers h = λ code. still_known texts u code (get_or numbers code None) (h code)
 
 abbrev without : List ℕ → List (List ℕ) → List (List ℕ)
 without t texts = filter (λ other. not (bytes_eq other t)) texts

@@ -1,11 +1,11 @@
 -- The palette of a file, and the cells as numbers of the palette.
-use Rattle.std.specs.Prelude.{◌≡◌, ℕ, ◌+◌, pos, true, not, ⊤, Option, Some, None, if◌then◌else◌, List, [], ◌∷◌, ◌++◌, map, filter}
+use Rattle.std.specs.Prelude.{◌≡◌, ℕ, ◌+◌, pos, true, not, ⊤, Option, Some, None, if◌then◌else◌, List, [], ◌∷◌, ◌++◌, map, filter, slice_index_or}
 use Rattle.std.specs.List.{flat_map, list_any, position_or_len}
 use Rattle.std.specs.Str.{bytes_eq}
 use Rattle.nbt.specs.Plain.{PlainField, int}
 use Rattle.block_table.specs.declared.Block.{Block}
-use Rattle.block_table.specs.declared.Block.TheVariants.{Air}
 use Rattle.block_table.specs.WrittenText.{state_text}
+use Rattle.packed_block.specs.Packed.{unpacked}
 use Rattle.schem_write.specs.Varint.{varint}
 
 -- of texts that are the same the first one, at its own place
@@ -38,7 +38,11 @@ with_text palette text = if list_any (bytes_eq text) palette then palette else p
 abbrev pub IsNumberOf : List (List ℕ) → List ℕ → ℕ → Type 0
 IsNumberOf palette text number = (number ≡ number_in palette text) × (list_any (bytes_eq text) palette ≡ true)
 
--- the number of the text of air, if it is known
-abbrev pub IsAirNumber : List (List ℕ) → Option ℕ → Type 0
-IsAirNumber palette None = ⊤
-IsAirNumber palette (Some number) = IsNumberOf palette (state_text Air) number
+-- the number of the block of a code, where it is known
+abbrev pub IsNumber : List (List ℕ) → ℕ → Option ℕ → Type 0
+IsNumber palette code None = ⊤
+IsNumber palette code (Some number) = IsNumberOf palette (state_text (unpacked code)) number
+
+-- each number that is known is that of the block of its code
+abbrev pub AreNumbers : List (List ℕ) → List (Option ℕ) → Type 0
+AreNumbers palette numbers = (code : ℕ) → IsNumber palette code (slice_index_or numbers code None)

@@ -1,10 +1,10 @@
 //! Block entities: the outputs of comparators and the items of containers.
 
-ghost use Rattle.std.specs.Prelude.{◌≡◌, ◌≤◌, ◌∷◌, [], IfOk, IsTrue};
+ghost use Rattle.std.specs.Prelude.{◌≡◌, ◌<◌, ◌≤◌, ◌∷◌, [], IfOk, IsTrue};
 ghost use Rattle.std.specs.Option.{option_map};
 ghost use Rattle.nbt.specs.Plain.{plain_tree, plain_field, plain_fields, compound};
 ghost use Rattle.block_table.specs.WrittenText.{is_listed};
-ghost use Rattle.build.specs.Plan.{block_at, entry};
+ghost use Rattle.build.specs.Plan.{block_at, entry, has_level, place_of, volume};
 ghost use Rattle.schem_write.specs.BlockEntities.{level_field, level_in, id_of, further, entity_fields, entity_at, entities_of};
 
 use crate::Layout;
@@ -124,6 +124,50 @@ fn entity_at(
     }
 }
 
+/// Whether a block may need a block entity.
+fn has_level(block: Block) -> bool
+    ensures { result ≡ has_level block }
+{
+    match block {
+        Block::Comparator { .. } | Block::Container { .. } => true,
+        Block::Air
+        | Block::Inert { .. }
+        | Block::Slab { .. }
+        | Block::Wire { .. }
+        | Block::Torch { .. }
+        | Block::WallTorch { .. }
+        | Block::Repeater { .. }
+        | Block::Lever { .. }
+        | Block::Button { .. }
+        | Block::Plate { .. }
+        | Block::RedstoneBlock
+        | Block::Lamp { .. }
+        | Block::Trapdoor { .. }
+        | Block::Composter { .. }
+        | Block::Cauldron { .. }
+        | Block::Cake { .. }
+        | Block::Weighted { .. }
+        | Block::Note { .. } => false,
+    }
+}
+
+/// The block entity that the place of a cell needs. The place is found only where the block may need one.
+fn entity_in(
+    alloc: Global,
+    layout: Layout,
+    build: &Build,
+    cell: usize,
+) -> Result<Option<Tree>, NoMemory>
+    requires { cell < volume build.now }
+    ensures { IfOk result (λ tree. option_map plain_tree tree ≡ entity_at layout build.now (place_of build.now cell)) }
+{
+    if has_level(build.block_in(cell)) {
+        entity_at(alloc, layout, build, build.place(cell))
+    } else {
+        Ok(None)
+    }
+}
+
 /// The block entities of a build, in order of places.
 #[tactic(auto, unfolding(crate::specs::BlockEntities::entities_of))]
 pub fn entities_of(alloc: Global, layout: Layout, build: &Build) -> Result<Tree, NoMemory>
@@ -131,7 +175,7 @@ pub fn entities_of(alloc: Global, layout: Layout, build: &Build) -> Result<Tree,
 {
     let mut items = Vec::new(alloc);
     for cell in 0..build.cells() {
-        if let Some(tree) = entity_at(alloc, layout, build, build.place(cell))? {
+        if let Some(tree) = entity_in(alloc, layout, build, cell)? {
             items.push(tree)?;
         }
     }

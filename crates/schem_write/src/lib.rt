@@ -4,6 +4,7 @@
 mod entities;
 mod fields;
 mod laws;
+mod numbers;
 mod palette;
 mod roots;
 mod stacks;

@@ -3,10 +3,11 @@
 ghost use Rattle.std.specs.Prelude.{◌≡◌, ◌≤◌, ◌*◌, ◌++◌, ◌^◌, ◌<◌, ℕ, List, [], length, IfOk, OnOk, IsTrue};
 ghost use Rattle.build.specs.Plan.{IsWhole};
 ghost use Rattle.block_table.specs.WrittenText.{is_listed, state_text};
-ghost use Rattle.schem_write.specs.PaletteTexts.{palette_of, cells_of, number_in, with_text, numbered_from, IsNumberOf, IsAirNumber};
+ghost use Rattle.schem_write.specs.PaletteTexts.{palette_of, cells_of, number_in, with_text, numbered_from, IsNumberOf, AreNumbers};
 ghost use Rattle.schem_write.specs.Code.{texts_of, plain_pairs};
 
 use crate::fields::push;
+use crate::numbers::{Numbers, keep_number, known_number, no_numbers};
 use crate::varint::push_varint;
 use block_table::{Block, push_state};
 use build::Build;
@@ -31,37 +32,28 @@ fn number_of(alloc: Global, palette: &mut Palette, text: &[u8]) -> Result<usize,
     Ok(number)
 }
 
-/// The number of a block's text, which is `air` for air, where that is known.
+/// The number of a block's text, whose text is made only where the number isn't known yet.
 fn number_of_block(
     alloc: Global,
     palette: &mut Palette,
     text: &mut Vec<u8>,
-    air: Option<usize>,
+    numbers: &mut Numbers,
     block: Block,
 ) -> Result<usize, NoMemory>
-    requires air { IsAirNumber (texts_of palette.old.keys) air }
+    requires right { AreNumbers (texts_of palette.old.keys) numbers.old.items }
     requires listed { IsTrue (is_listed block) }
     ensures number { IfOk result (λ number. number ≡ number_in (texts_of palette.old.keys) (state_text block)) }
     ensures texts { OnOk result (texts_of palette.new.keys ≡ with_text (texts_of palette.old.keys) (state_text block)) }
-    ensures known { IfOk result (λ number. IsNumberOf (texts_of palette.new.keys) (state_text block) number) }
+    ensures right { OnOk result (AreNumbers (texts_of palette.new.keys) numbers.new.items) }
 {
-    if let (Block::Air, Some(number)) = (block, air) {
+    if let Some(number) = known_number(numbers, block) {
         return Ok(number);
     }
     text.clear();
     push_state(block, text)?;
-    number_of(alloc, palette, text)
-}
-
-/// The number of air, where one block more has its number.
-fn air_number(air: Option<usize>, block: Block, number: usize) -> Option<usize>
-    ensures { (palette : List (List ℕ)) → IsAirNumber palette air → IsNumberOf palette (state_text block) number → IsAirNumber palette result }
-{
-    if let Block::Air = block {
-        Some(number)
-    } else {
-        air
-    }
+    let number = number_of(alloc, palette, text)?;
+    keep_number(numbers, block, number);
+    Ok(number)
 }
 
 /// The palette of a build, and the bytes of its cells.
@@ -74,12 +66,11 @@ pub fn palette_and_cells(alloc: Global, build: &Build) -> Result<(Palette, Vec<u
     let mut palette = IndexSet::new(alloc);
     let mut cells = Vec::with_capacity(alloc, build.cells())?;
     let mut text = Vec::new(alloc);
-    let mut air = None;
+    let mut numbers = no_numbers(alloc)?;
     for cell in 0..build.cells() {
         let block = build.block_in(cell);
-        let number = number_of_block(alloc, &mut palette, &mut text, air, block)?;
+        let number = number_of_block(alloc, &mut palette, &mut text, &mut numbers, block)?;
         push_varint(&mut cells, number)?;
-        air = air_number(air, block, number);
     }
     Ok((palette, cells))
 }

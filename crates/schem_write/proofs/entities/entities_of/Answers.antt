@@ -20,13 +20,13 @@ loop-cell-preserved c =
     elim c.match-branch-2.branch [
       | in-Some+in_ok-push w ↦
           found-tree plain_tree f b i c.loop-cell.items.items c.match-branch-2.items.items w.in-Some.tree inside
-          (ap (option_map plain_tree) (sym w.in-Some.is) ∙ c.in_ok-tree.ensures ∙ ap f c.place.ensures)
+          (ap (option_map plain_tree) (sym w.in-Some.is) ∙ c.in_ok-tree.ensures)
           (ap (λ (v : Vec Tree Global). v.items) w.items-is ∙ w.in_ok-push.ensures.items)
           c.loop-cell.invariant
       | in_default w ↦
           subst (λ (ts : List Tree). FoundBelow f b (plain_list ts) (i + 1)) (sym (ap (λ (v : Vec Tree Global). v.items) w.items-is))
           (found_no_more f b i (plain_list c.loop-cell.items.items) inside
-          (ap f (sym c.place.ensures) ∙ sym c.in_ok-tree.ensures ∙ ap (option_map plain_tree) w.in_default.is) c.loop-cell.invariant)
+          (sym c.in_ok-tree.ensures ∙ ap (option_map plain_tree) w.in_default.is) c.loop-cell.invariant)
     ]
 
 pub returns : goal.returns

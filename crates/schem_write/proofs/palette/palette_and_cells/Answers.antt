@@ -1,10 +1,8 @@
-use Rattle.std.proofs.Common.{◌≡◌, ◌<◌, ◌++◌, List, ℕ, sym, ap, subst, ◌∙◌, arith}
+use Rattle.std.proofs.Common.{◌≡◌, ◌<◌, ◌++◌, List, [], ℕ, sym, ap, subst, ◌∙◌, arith}
 use Rattle.block_table.specs.WrittenText.{state_text}
 use Rattle.build.specs.Plan.{Plan, volume, place_of, block_at}
 use Rattle.schem_write.specs.Code.{texts_of}
-use Rattle.schem_write.specs.PaletteTexts.{IsAirNumber}
-use Rattle.schem_write.proofs.FirstOnes.{still_air}
-use Rattle.schem_write.proofs.CellSteps.{before-more, all-texts, all-cells, few-texts}
+use Rattle.schem_write.proofs.CellSteps.{Before, before-none, before-more, all-texts, all-cells, few-texts}
 use Rattle.schem_write.proofs.palette.palette_and_cells.Goals as goal
 
 pub loop-cell-preserved : goal.loop-cell-preserved
@@ -17,9 +15,7 @@ loop-cell-preserved c =
       before = before-more b (texts_of c.loop-cell.palette.keys) (texts_of c.number_of_block.new.palette.keys) c.loop-cell.cells.items c.push_varint.new.out.items
           c.loop-cell.cell c.in_ok-number.number text c.cells.ensures.whole inside same
           c.in_ok-number.ensures.number c.in_ok-number.ensures.texts c.in_ok-push_varint.ensures c.loop-cell.invariant.before;
-      air = c.air_number-air.ensures (texts_of c.number_of_block.new.palette.keys)
-          (subst (λ (texts : List (List ℕ)). IsAirNumber texts c.loop-cell.air) (sym c.in_ok-number.ensures.texts) (still_air (texts_of c.loop-cell.palette.keys) text c.loop-cell.air c.loop-cell.invariant.air))
-          c.in_ok-number.ensures.known;
+      right = c.in_ok-number.ensures.right;
     }
 
 pub returns-clause-texts : goal.returns-clause-texts
@@ -33,3 +29,9 @@ returns-clause-cells c =
 pub returns-clause-few : goal.returns-clause-few
 returns-clause-few c =
     few-texts c.args.build.now c.loop-cell.palette.keys c.loop-cell.cells.items c.loop-cell.cell c.cells.ensures.whole c.loop-cell.invariant.before
+
+pub loop-cell-init : goal.loop-cell-init
+loop-cell-init c = record {
+  before = subst (λ (texts : List (List ℕ)). Before c.args.build.now texts c.in_ok-cells.cells.items 0) (sym (ap texts_of c.new-palette.ensures.empty)) (subst (λ (cells : List ℕ). Before c.args.build.now [] cells 0) (sym c.in_ok-cells.ensures.items) (before-none c.args.build.now));
+  right = c.in_ok-numbers.ensures (texts_of c.new-palette.result.keys);
+}
