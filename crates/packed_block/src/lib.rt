@@ -3,6 +3,7 @@
 
 ghost use Rattle.std.specs.Prelude.{◌≡◌, IsTrue};
 ghost use Rattle.block_table.specs.WrittenText.{is_listed};
+ghost use Rattle.packed_block.specs.Packed.{packed};
 
 mod codes;
 #[cfg(test)]
@@ -54,5 +55,13 @@ impl PackedBlock {
         ensures listed { IsTrue (is_listed result) }
     {
         codes::unpacked(self.code)
+    }
+
+    /// The two bytes as a number, by which blocks are told apart.
+    #[inline(always)]
+    pub fn code(self) -> u16
+        ensures { result ≡ packed self }
+    {
+        self.code
     }
 }
