@@ -6,7 +6,7 @@ use Rattle.circuit.specs.declared.Pos.{Pos}
 use Rattle.circuit.specs.Circuit.{State}
 use Rattle.build.specs.declared.Pending.{Pending}
 use Rattle.build.specs.Edits.{fresh, with_level, with_pending}
-use Rattle.build.specs.Plan.{Plan, entry, block_at, may_wait, place_of, volume}
+use Rattle.build.specs.Plan.{Plan, entry, block_at, has_level, may_wait, place_of, volume}
 use Rattle.cell_queue.specs.declared.cells.Wait.{Wait}
 use Rattle.graph.specs.Graph.{Nodes}
 use Rattle.handover.specs.declared.held.Held.{Held}
@@ -70,6 +70,11 @@ with_levels_by b held = record (with_blocks_by b held) { levels = map (level_by 
 abbrev pub with_level_if : Bool → Plan → Pos → ℕ → Plan
 with_level_if true b p level = with_level b p level
 with_level_if false b p level = b
+
+-- the build with the level of a cell, where its block has one
+abbrev pub with_level_in : Plan → ℕ → Option Held → Plan → Plan
+with_level_in b cell held after =
+    with_level_if (has_level (block_at b (place_of b cell))) after (place_of b cell) (given_level held (block_at b (place_of b cell)) (entry b b.levels 0 (place_of b cell)))
 
 -- ---- the ticks
 

@@ -1,11 +1,11 @@
 //! Blocks, levels and pending ticks of a build to which a run is handed back.
 
-ghost use Rattle.std.specs.Prelude.{◌≡◌, ◌≤◌, true, false, Some, IsTrue, IfOk, IfSome, OnOk};
+ghost use Rattle.std.specs.Prelude.{◌≡◌, ◌<◌, ◌≤◌, true, false, Some, IsTrue, IfOk, IfSome, OnOk};
 ghost use Rattle.block_table.specs.WrittenText.{is_listed};
 ghost use Rattle.build.specs.Edits.{is_comparator, is_container, with_pending};
-ghost use Rattle.build.specs.Plan.{block_at, entry, has_level, may_wait, is_pending};
+ghost use Rattle.build.specs.Plan.{block_at, entry, has_level, may_wait, is_pending, place_of, volume};
 ghost use Rattle.handover.specs.GivenBack.{given_block, given_output, given_level, given_tick};
-ghost use Rattle.handover.specs.HeldByCell.{in_cell, IsSmall, AreSmall, AreTicking, with_blocks_by, with_levels_by, with_level_if, with_ticks_by, with_tick};
+ghost use Rattle.handover.specs.HeldByCell.{in_cell, IsSmall, AreSmall, AreTicking, with_blocks_by, with_levels_by, with_level_if, with_level_in, with_ticks_by, with_tick};
 
 use crate::held::Held;
 use crate::values::with_value;
@@ -20,7 +20,7 @@ pub fn with_blocks(alloc: Global, build: &Build, held: &[Option<Held>]) -> Resul
     requires { AreSmall held.now }
     ensures { IfOk result (λ after. after ≡ with_blocks_by build.now held.now) }
 {
-    let mut blocks = Vec::new(alloc);
+    let mut blocks = Vec::with_capacity(alloc, build.cells())?;
     for cell in 0..build.cells() {
         let block = given_block(build.block_in(cell), in_cell(held, cell));
         blocks.push(PackedBlock::new(block))?;
@@ -64,9 +64,56 @@ pub fn give_levels(build: &Build, held: &[Option<Held>], after: &mut Build) -> R
     ensures { OnOk result (after.new ≡ with_levels_by build.now held.now) }
 {
     for cell in 0..build.cells() {
-        give_level(build, build.place(cell), in_cell(held, cell), after)?;
+        give_level_in(build, cell, in_cell(held, cell), after)?;
     }
     Ok(())
+}
+
+// Whether a block has a level.
+fn has_level(block: Block) -> bool
+    ensures { result ≡ has_level block }
+{
+    match block {
+        Block::Comparator { .. } | Block::Container { .. } => true,
+        Block::Air
+        | Block::Inert { .. }
+        | Block::Slab { .. }
+        | Block::Wire { .. }
+        | Block::Torch { .. }
+        | Block::WallTorch { .. }
+        | Block::Repeater { .. }
+        | Block::Lever { .. }
+        | Block::Button { .. }
+        | Block::Plate { .. }
+        | Block::RedstoneBlock
+        | Block::Lamp { .. }
+        | Block::Trapdoor { .. }
+        | Block::Composter { .. }
+        | Block::Cauldron { .. }
+        | Block::Cake { .. }
+        | Block::Weighted { .. }
+        | Block::Note { .. } => false,
+    }
+}
+
+// Stores the level of the block in a cell, if it has one. The place is found only where it has.
+fn give_level_in(
+    build: &Build,
+    cell: usize,
+    held: Option<Held>,
+    after: &mut Build,
+) -> Result<(), NoMemory>
+    requires inside { cell < volume build.now }
+    requires small { IsSmall held }
+    requires comparator { is_comparator (block_at after.old (place_of build.now cell)) ≡ is_comparator (block_at build.now (place_of build.now cell)) }
+    requires container { is_container (block_at after.old (place_of build.now cell)) ≡ is_container (block_at build.now (place_of build.now cell)) }
+    ensures { OnOk result (after.new ≡ with_level_in build.now cell held after.old) }
+{
+    if has_level(build.block_in(cell)) {
+        give_level(build, build.place(cell), held, after)
+    } else {
+        Ok(())
+    }
 }
 
 // Stores the output of the comparator or the strength of the container at a place, if one stands there.
@@ -122,9 +169,27 @@ pub fn give_ticks(build: &Build, held: &[Option<Held>], after: &mut Build) -> Re
     ensures { OnOk result (after.new ≡ with_ticks_by build.now held.now) }
 {
     for cell in 0..build.cells() {
-        give_tick(build.place(cell), in_cell(held, cell), after)?;
+        give_tick_in(build, cell, in_cell(held, cell), after)?;
     }
     Ok(())
+}
+
+// Adds the tick that is pending in a cell, if there is one. The place is found only where something is held.
+fn give_tick_in(
+    build: &Build,
+    cell: usize,
+    held: Option<Held>,
+    after: &mut Build,
+) -> Result<(), NoMemory>
+    requires inside { cell < volume build.now }
+    requires waits { (tick : Pending) → given_tick (place_of build.now cell) held ≡ Some tick → may_wait after.old tick ≡ true }
+    requires none { is_pending after.old.pending (place_of build.now cell) ≡ false }
+    ensures { OnOk result (after.new ≡ with_tick after.old (given_tick (place_of build.now cell) held)) }
+{
+    match held {
+        Some(_) => give_tick(build.place(cell), held, after),
+        None => Ok(()),
+    }
 }
 
 // Adds the tick that is pending at a place, if there is one.

@@ -1,6 +1,6 @@
 //! The palette of a build, and its cells as numbers of the palette.
 
-ghost use Rattle.std.specs.Prelude.{◌≡◌, ◌≤◌, ◌*◌, ◌++◌, ◌^◌, ◌<◌, ℕ, List, [], length, IfOk, OnOk, IsTrue};
+ghost use Rattle.std.specs.Prelude.{◌≡◌, ◌≤◌, ◌*◌, ◌++◌, ◌^◌, ◌<◌, [], length, IfOk, OnOk, IsTrue};
 ghost use Rattle.build.specs.Plan.{IsWhole};
 ghost use Rattle.block_table.specs.WrittenText.{is_listed, state_text};
 ghost use Rattle.schem_write.specs.PaletteTexts.{palette_of, cells_of, number_in, with_text, numbered_from, IsNumberOf, AreNumbers};

@@ -1,11 +1,11 @@
 use Rattle.std.proofs.Common.{◌≡◌, ℕ, List, Option, Some, None, true, sym, ap, ◌∙◌, subst}
-use Rattle.std.specs.Prelude.{IfSome, IsTrue}
+use Rattle.std.specs.Prelude.{IfSome}
 use Rattle.std.proofs.Math.ListN.{get_or}
 use Rattle.block_table.specs.declared.Block.{Block}
 use Rattle.block_table.specs.WrittenText.{is_listed, state_text}
-use Rattle.packed_block.specs.Packed.{packed, unpacked}
+use Rattle.packed_block.specs.Packed.{packed}
 use Rattle.packed_block.proofs.RoundTrip.{comes_back}
-use Rattle.schem_write.specs.PaletteTexts.{IsNumberOf, IsNumber, AreNumbers}
+use Rattle.schem_write.specs.PaletteTexts.{IsNumberOf, IsNumber}
 use Rattle.schem_write.proofs.numbers.known_number.Goals as goal
 
 of_code : (palette : List (List ℕ)) (block : Block) (known : Option ℕ) → is_listed block ≡ true →

@@ -1,4 +1,4 @@
-use Rattle.std.proofs.Common.{◌≡◌, ◌<◌, ◌++◌, List, [], ℕ, sym, ap, subst, ◌∙◌, arith}
+use Rattle.std.proofs.Common.{◌≡◌, ◌<◌, List, [], ℕ, sym, ap, subst, arith}
 use Rattle.block_table.specs.WrittenText.{state_text}
 use Rattle.build.specs.Plan.{Plan, volume, place_of, block_at}
 use Rattle.schem_write.specs.Code.{texts_of}
