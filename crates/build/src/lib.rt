@@ -66,4 +66,3 @@ pub struct OutPlace {
     pub pos: Pos,
     pub kind: OutKind,
 }
-

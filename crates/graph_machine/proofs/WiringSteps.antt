@@ -158,8 +158,6 @@ part_out-at (Some node) = begin_out (role_of node.kind) node.state node.due node
 
 -- ---- the keys of a graph
 
-
-
 -- ---- all nodes, one after another
 
 below_step : (count : ℕ) (g : Nodes) (key : ℕ) → entry_below (count + 1) g key ≡ cond (count == key) (node_at g count) (entry_below count g key)

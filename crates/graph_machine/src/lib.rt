@@ -21,4 +21,3 @@ pub use fired::Fired;
 pub use headed::outputs_of;
 pub use machine::Machine;
 pub use steps::Steps;
-

@@ -146,4 +146,3 @@ impl From<NoMemory> for Fault {
         Fault::Memory
     }
 }
-
