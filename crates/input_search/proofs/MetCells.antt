@@ -2,14 +2,13 @@
 use Rattle.std.proofs.Common.{◌≡◌, ◌≢◌, ℕ, ◌<◌, Bool, true, false, List, [], ◌∷◌, length, get_or, set, Option, Some, None, refl, sym, ◌∙◌, ap, inl, inr, arith, eq-eqb}
 use Rattle.std.specs.Prelude.{◌||◌}
 use Rattle.std.specs.Option.{option_map_or}
-use Rattle.std.proofs.Math.Dec.{eqb}
 use Rattle.std.proofs.lemmas.Bool.{cases_eq}
 use Rattle.std.proofs.lemmas.List.{get_or-set_same, get_or-set_other}
 use Rattle.cell_numbers.specs.Numbers.{number_in}
 use Rattle.input_search.specs.CellLists.{has_cell}
 use Rattle.input_search.specs.Rows.{is_met, has_met}
 use Rattle.input_search.proofs.CellOrder.{eqb-apart}
-use Rattle.input_search.proofs.WireNumbers.{among-has, number-there, number-missed}
+use Rattle.input_search.proofs.WireNumbers.{number-there}
 
 -- what was met of the cell of a number
 pub has_met-at : (listed : List ℕ) (met : List Bool) (cell number : ℕ) → number_in listed cell ≡ Some number → has_met listed met cell ≡ is_met met number

@@ -1,11 +1,11 @@
 -- A search for the links of a wire tap that looks at each wire once.
-use Rattle.std.proofs.Common.{◌≡◌, ℕ, zero, suc, ◌+◌, ◌<◌, ◌≤◌, Bool, true, false, not, List, [], ◌∷◌, ◌++◌, length, map, refl, sym, ◌∙◌, ap, subst, arith, inl, inr, ◌⊎◌, add-one, Option, Some, None}
+use Rattle.std.proofs.Common.{◌≡◌, ℕ, zero, suc, ◌+◌, ◌<◌, ◌≤◌, Bool, true, false, not, List, [], ◌∷◌, ◌++◌, length, map, refl, sym, ◌∙◌, ap, subst, arith, inl, inr, ◌⊎◌, add-one, Some, None}
 use Rattle.std.specs.Prelude.{filter, All, ◌&&◌, ◌||◌, replicate}
 use Rattle.std.specs.List.{flat_map, range_with_len}
 use Rattle.std.specs.Option.{option_map_or}
 use Rattle.std.proofs.lemmas.Bool.{cases_Bool, false≢true}
 use Rattle.std.proofs.lemmas.List.{map-append, length-replicate}
-use Rattle.std.proofs.lemmas.List.Elements.{All-head, All-tail, All-contains, filter_map-append}
+use Rattle.std.proofs.lemmas.List.Elements.{All-contains, filter_map-append}
 use Rattle.std.proofs.lemmas.List.Folds.{list_any-append}
 use Rattle.circuit.specs.declared.Pos.{Pos}
 use Rattle.circuit.specs.Circuit.{Among}
@@ -18,7 +18,7 @@ use Rattle.wire_shape.specs.Feeders.{feeders}
 use Rattle.input_search.specs.Links.{From, at_weight, among, direct_places, wires_in, sources_in, links_below, with_distance}
 use Rattle.input_search.specs.CellLists.{has_cell, kept_cells, cells_of, places_of, AreCells}
 use Rattle.input_search.specs.Distances.{Steps, Here, Onward}
-use Rattle.input_search.specs.Rows.{is_met, has_met, AreBelow, Gathers, GathersCells}
+use Rattle.input_search.specs.Rows.{is_met, has_met, Gathers, GathersCells}
 use Rattle.input_search.specs.Wiring.{wire_cells, source_cells, wire_place, wire_places, fed_row, read_row, AreLinked, IsAt}
 use Rattle.input_search.proofs.CellOrder.{both, cell_among, cells_within}
 use Rattle.wiring.proofs.ReadLaws.{direct_places-source}

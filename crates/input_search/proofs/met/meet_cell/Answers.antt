@@ -1,4 +1,4 @@
-use Rattle.std.proofs.Common.{◌<◌, ℕ, Bool, not, length, sym, subst, ap, ◌∙◌, arith, length-set}
+use Rattle.std.proofs.Common.{◌<◌, not, length, sym, ap, ◌∙◌, arith}
 use Rattle.input_search.proofs.MetCells.{has_met-at, met_one}
 use Rattle.input_search.proofs.WireNumbers.{among-has, number-there, number-missed}
 use Rattle.input_search.proofs.met.meet_cell.Goals as goal

@@ -3,7 +3,7 @@ use Rattle.std.specs.List.{flat_map}
 use Rattle.circuit.specs.declared.Pos.{Pos}
 use Rattle.build.specs.Plan.{Plan}
 use Rattle.input_search.specs.CellLists.{places_of, AreCells}
-use Rattle.input_search.specs.Links.{From, at_weight, direct_places, with_distance}
+use Rattle.input_search.specs.Links.{From, at_weight, direct_places}
 use Rattle.input_search.specs.Rows.{Gathers, GathersCells}
 use Rattle.input_search.specs.Wiring.{wire_cells, source_cells, wire_place, wire_places, fed_row, read_row, IsAt}
 use Rattle.wire_shape.specs.Shape.{wire_at}

@@ -1,5 +1,4 @@
-use Rattle.std.proofs.Common.{◌≡◌, ℕ, true, List, subst, ap, ◌∙◌, sym, arith}
-use Rattle.circuit.specs.declared.Pos.{Pos}
+use Rattle.std.proofs.Common.{ℕ, List, subst, ap, ◌∙◌, sym, arith}
 use Rattle.circuit.specs.Circuit.{Among}
 use Rattle.build.specs.Plan.{Plan}
 use Rattle.input_search.specs.Links.{wires_in}

@@ -1,4 +1,4 @@
-use Rattle.std.proofs.Common.{◌≡◌, ℕ, List, [], ◌∷◌, length, refl, sym, ap, ◌∙◌, arith, eqb-true, vec_len}
+use Rattle.std.proofs.Common.{◌≡◌, List, [], ◌∷◌, length, refl, sym, ◌∙◌, arith, eqb-true, vec_len}
 use Rattle.std.proofs.lemmas.Result.{on_ok_weaker}
 use Rattle.build.specs.Plan.{Plan}
 use Rattle.input_search.specs.Links.{From, links_below, wire_links}
